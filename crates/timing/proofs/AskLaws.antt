@@ -1,0 +1,83 @@
+-- Laws of the order on asks: the latest of a list is above all of it, is one of it, and is the only such.
+use mathlib.Core.Path.{_≡_, refl, sym, _∙_, ap, subst}
+use mathlib.Core.Logic.{_⊎_, inl, inr, ⊎-elim}
+use mathlib.Core.Bool.{Bool, true, false, cond, _&&_, _||_}
+use mathlib.Core.List.{List, [], _∷_, List·Memᴰ, List·Memᴰ·head, List·Memᴰ·tail, List·Memᴰ·cases-cons, List·Memᴰ·not-nil}
+use Prim.Native.Nat.{ℕ, _≤_, _<_}
+use native.Mathlib.Omega.{arith}
+use lib.Dec.{ltb, eqb}
+use borrow.Author.Tests.{ltb-true, ltb-false, eqb-true, eqb-false}
+use Rattle.timing.specs.Earliest.{Ask, later, latest}
+
+infix 40 _≼_
+-- b is at least as late as a, and for the same cycle has a number at most a's
+pub record _≼_ (a b : Ask) : Type 0 where
+  pub cycle : a .cycle ≤ b .cycle
+  pub gap : a .cycle ≡ b .cycle → b .gap ≤ a .gap
+
+pub ≼-refl : (a : Ask) → a ≼ a
+≼-refl a = record { cycle = omega arith; gap = λ e. omega arith }
+
+pub ≼-trans : {a b c : Ask} → a ≼ b → b ≼ c → a ≼ c
+≼-trans {a} {b} {c} p q =
+    record {
+      cycle = omega arith;
+      gap = λ e. let ab : a .cycle ≡ b .cycle = omega arith in let bc : b .cycle ≡ c .cycle = omega arith in omega (arith, p .gap ab, q .gap bc);
+    }
+
+pub ask-path : (a b : Ask) → a .cycle ≡ b .cycle → a .gap ≡ b .gap → a ≡ b
+ask-path a b p q = λ i. record { cycle = p i; gap = q i }
+
+pub ≼-antisym : (a b : Ask) → a ≼ b → b ≼ a → a ≡ b
+≼-antisym a b p q =
+    let ec : a .cycle ≡ b .cycle = omega arith in
+    ask-path a b ec (omega (arith, p .gap ec, q .gap (sym ec)))
+
+-- `later` is one of the two and above both
+pub later-one : (a b : Ask) → (later a b ≡ a) ⊎ (later a b ≡ b)
+later-one a b = go (ltb (a .cycle) (b .cycle) || eqb (a .cycle) (b .cycle) && ltb (b .gap) (a .gap))
+  where
+    go : (t : Bool) → (cond t b a ≡ a) ⊎ (cond t b a ≡ b)
+    go true = inr refl
+    go false = inl refl
+
+pub later-above : (a b : Ask) → (a ≼ later a b) × (b ≼ later a b)
+later-above a b = go (ltb (a .cycle) (b .cycle)) (eqb (a .cycle) (b .cycle)) (ltb (b .gap) (a .gap)) refl refl refl
+  where
+    go : (x y z : Bool) → ltb (a .cycle) (b .cycle) ≡ x → eqb (a .cycle) (b .cycle) ≡ y → ltb (b .gap) (a .gap) ≡ z
+        → (a ≼ cond (x || y && z) b a) × (b ≼ cond (x || y && z) b a)
+    go true y z p q r =
+        let l = ltb-true (a .cycle) (b .cycle) p in (record { cycle = omega arith; gap = λ e. omega arith }, ≼-refl b)
+    go false true true p q r =
+        let e = eqb-true (a .cycle) (b .cycle) q in let l = ltb-true (b .gap) (a .gap) r in (record { cycle = omega arith; gap = λ _. omega arith }, ≼-refl b)
+    go false true false p q r =
+        let e = eqb-true (a .cycle) (b .cycle) q in let l = ltb-false (b .gap) (a .gap) r in (≼-refl a, record { cycle = omega arith; gap = λ _. omega arith })
+    go false false z p q r =
+        let l = ltb-false (a .cycle) (b .cycle) p in
+        let n = eqb-false (a .cycle) (b .cycle) q in
+        (≼-refl a, record { cycle = omega arith; gap = λ e. absurd (n (sym e)) })
+
+pub latest-above-first : (a : Ask) (bs : List Ask) → a ≼ latest a bs
+unfolding latest
+latest-above-first a [] = ≼-refl a
+latest-above-first a (b ∷ bs) = ≼-trans (latest-above-first a bs) (later-above b (latest a bs) .1)
+
+pub latest-above : (a : Ask) (bs : List Ask) {b : Ask} → List·Memᴰ b bs → b ≼ latest a bs
+unfolding latest
+latest-above a [] m = absurd (List·Memᴰ·not-nil m)
+latest-above a (c ∷ bs) {b} m =
+    ⊎-elim (λ (e : b ≡ c). subst (λ (x : Ask). x ≼ latest a (c ∷ bs)) (sym e) (later-above c (latest a bs) .0))
+    (λ (m′ : List·Memᴰ b bs). ≼-trans (latest-above a bs m′) (later-above c (latest a bs) .1)) (List·Memᴰ·cases-cons m)
+
+pub latest-one : (a : Ask) (bs : List Ask) → (latest a bs ≡ a) ⊎ List·Memᴰ (latest a bs) bs
+unfolding latest
+latest-one a [] = inl refl
+latest-one a (b ∷ bs) =
+    ⊎-elim (λ e. inr (List·Memᴰ·head e))
+    (λ e. ⊎-elim (λ f. inl (e ∙ f)) (λ m. inr (List·Memᴰ·tail (subst (λ (x : Ask). List·Memᴰ x bs) (sym e) m))) (latest-one a bs))
+    (later-one b (latest a bs))
+
+-- the latest is at most every upper bound, so two lists with the same upper bounds have the same latest
+pub latest-least : (a : Ask) (bs : List Ask) (u : Ask) → a ≼ u → ((b : Ask) → List·Memᴰ b bs → b ≼ u) → latest a bs ≼ u
+latest-least a bs u ha hb =
+    ⊎-elim (λ (e : latest a bs ≡ a). subst (λ (x : Ask). x ≼ u) (sym e) ha) (λ (m : List·Memᴰ (latest a bs) bs). hb (latest a bs) m) (latest-one a bs)

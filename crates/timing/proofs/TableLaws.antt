@@ -1,0 +1,101 @@
+-- A table that passes the test `agrees` holds the list's rule at each entry, and no second rule of the list holds there.
+use mathlib.Core.Path.{_≡_, refl, sym, _∙_, ap, subst}
+use mathlib.Core.Bool.{Bool, true, false, _&&_}
+use mathlib.Core.List.{List, [], _∷_}
+use Prim.Native.Nat.{ℕ, zero, suc, _+_, _-_, _*_, _/_, _%_, _<_, _≤_}
+use native.Mathlib.Nat.{add-zero, zero-add, add-suc, suc-add, le-of-suc-le-suc, not-suc-le-zero}
+use native.Mathlib.Omega.{arith}
+use lib.Dec.{T, eqb, eqb→eq, ltb}
+use lib.ListN.{length, getD}
+use borrow.Author.Tests.{lt-ltb}
+use Rattle.timing.specs.declared.kinds.CommandKind.{CommandKind}
+use Rattle.timing.specs.declared.rules.Opening.{Opening}
+use Rattle.timing.specs.Kinds.{codeOf}
+use Rattle.timing.specs.Rules.{rules, matching, matchingAt, covers, inMode, kindAt, ruleGap, firstOr0, tableGap, tablePlace, alone, alonePlaces, agrees}
+use Rattle.timing.proofs.KindLaws.{code-low, code-high, kind-at-code}
+
+pub and-left : (a b : Bool) → T (a && b) → T a
+and-left true b t = tt
+and-left false b t = t
+
+pub and-right : (a b : Bool) → T (a && b) → T b
+and-right true b t = t
+and-right false b t = absurd t
+
+-- the list with this number alone, or nothing for 0
+abbrev pub only : ℕ → List ℕ
+only zero = []
+only (suc n) = suc n ∷ []
+
+alone-only : (n : ℕ) (ms : List ℕ) → T (alone n ms) → ms ≡ only n
+alone-only n [] t = ap only (sym (eqb→eq n 0 t))
+alone-only n (zero ∷ []) t = absurd (and-right (eqb n 0) false t)
+alone-only n (suc m ∷ []) t = ap only (sym (eqb→eq n (suc m) (and-left (eqb n (suc m)) (ltb 0 (suc m)) t)))
+alone-only n (m ∷ k ∷ ms) t = absurd t
+
+first-only : (n : ℕ) → firstOr0 (only n) ≡ n
+first-only zero = refl
+first-only (suc n) = refl
+
+alone-at : (t : List ℕ) (i : ℕ) → T (alonePlaces i t) → (k : ℕ) → k < length t → T (alone (getD t k 0) (matchingAt (i + k)))
+unfolding alonePlaces
+alone-at [] i h k l = absurd (not-suc-le-zero l)
+alone-at (n ∷ ns) i h zero l = subst (λ (m : ℕ). T (alone n (matchingAt m))) (sym (add-zero i)) (and-left (alone n (matchingAt i)) (alonePlaces (suc i) ns) h)
+alone-at (n ∷ ns) i h (suc k) l =
+    subst (λ (m : ℕ). T (alone (getD ns k 0) (matchingAt m))) (suc-add i k ∙ sym (add-suc i k))
+    (alone-at ns (suc i) (and-right (alone n (matchingAt i)) (alonePlaces (suc i) ns) h) k (le-of-suc-le-suc l))
+
+module _ (m class a b : ℕ) (hm : m < 2) (hc : class < 3) (ha : a < 7) (hb : b < 7) where
+  abbrev place : ℕ
+  place = ((m * 3 + class) * 7 + a) * 7 + b
+
+  place-mode : place / 147 ≡ m
+  place-mode = omega arith
+
+  place-class : place / 49 % 3 ≡ class
+  place-class = omega arith
+
+  place-first : place / 7 % 7 ≡ a
+  place-first = omega arith
+
+  place-second : place % 7 ≡ b
+  place-second = omega arith
+
+  place-low : place < 294
+  place-low = omega arith
+
+code-place : (k : CommandKind) → codeOf k - 1 < 7
+code-place k = omega (arith, code-low k, code-high k)
+
+-- the rules look at nothing of an opening but its mode
+mode-only : (o : Opening) (class : ℕ) (a b : CommandKind) → matching (inMode (o .mode)) class a b rules ≡ matching o class a b rules
+unfolding matching rules covers
+mode-only o class a b = refl
+
+decoded : (p m class : ℕ) (a b : CommandKind) → 0 + p ≡ p → p / 147 ≡ m → p / 49 % 3 ≡ class → kindAt (p / 7 % 7) ≡ a → kindAt (p % 7) ≡ b
+    → matchingAt (0 + p) ≡ matching (inMode m) class a b rules
+decoded p m class a b e em ec ea eb = rw (e, em, ec, ea, eb)
+
+module _ (t : List ℕ) (agreed : T (agrees t)) (o : Opening) (class : ℕ) (a b : CommandKind) (hm : o .mode < 2) (hc : class < 3) where
+  -- where the table passes the test, the rules that hold at an entry are the entry's alone
+  pub matching-only : matching o class a b rules ≡ only (getD t (tablePlace o class a b) 0)
+  unfolding agrees
+  matching-only =
+      let m = o .mode in
+      let x = codeOf a - 1 in
+      let y = codeOf b - 1 in
+      let p = tablePlace o class a b in
+      let hx = code-place a in
+      let hy = code-place b in
+      let size : length t ≡ 294 = eqb→eq (length t) 294 (and-left (eqb (length t) 294) (alonePlaces 0 t) agreed) in
+      let low : p < length t = subst (λ (n : ℕ). p < n) (sym size) (place-low m class x y hm hc hx hy) in
+      let found = alone-only (getD t p 0) (matchingAt (0 + p)) (alone-at t 0 (and-right (eqb (length t) 294) (alonePlaces 0 t) agreed) p low) in
+      sym (mode-only o class a b)
+      ∙ sym (decoded p m class a b (zero-add p) (place-mode m class x y hm hc hx hy) (place-class m class x y hm hc hx hy)
+      (ap kindAt (place-first m class x y hm hc hx hy) ∙ kind-at-code a) (ap kindAt (place-second m class x y hm hc hx hy) ∙ kind-at-code b))
+      ∙ found
+
+  -- the table's entry
+  pub table-entry : getD t (tablePlace o class a b) 0 ≡ tableGap o class a b
+  unfolding tableGap ruleGap
+  table-entry = rw (lt-ltb (o .mode) 2 hm, matching-only) (sym (first-only (getD t (tablePlace o class a b) 0)))

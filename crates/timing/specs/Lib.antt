@@ -1,0 +1,4 @@
+pub mod Kinds
+pub mod Clocks
+pub mod Rules
+pub mod Earliest

@@ -1,0 +1,137 @@
+-- The twenty gaps' rules 1 to 19 as a list, and the table's test of agreement with that list.
+use mathlib.Core.Bool.{Bool, true, false, cond, _&&_, _||_}
+use mathlib.Core.List.{List, [], _∷_}
+use Prim.Native.Nat.{ℕ, suc, _+_, _-_, _*_, _/_, _%_}
+use lib.Dec.{eqb, ltb}
+use lib.ListN.{length, getD}
+use Rattle.timing.specs.declared.kinds.CommandKind.{CommandKind}
+use Rattle.timing.specs.declared.kinds.CommandKind.the-variants.{Act, Rd, Wr, Prepb, Preab, Refab, Refpb}
+use Rattle.timing.specs.declared.rules.Opening.{Opening}
+use Rattle.timing.specs.declared.rules.Command.{Command}
+use Rattle.timing.specs.Kinds.{codeOf, sameKind, allBanks}
+
+-- eight groups of two banks, in every mode
+abbrev pub groupOf : Opening → ℕ → ℕ
+groupOf o bank = bank / 2
+
+-- class 0: both name the same bank; 1: different banks, same group; 2: everything else, and always when either is PREAB or REFAB
+abbrev pub classOf : Opening → Command → Command → ℕ
+classOf o x y =
+    cond (allBanks (x .kind) || allBanks (y .kind)) 2
+    (cond (eqb (x .bank) (y .bank)) 0
+    (cond (eqb (groupOf o (x .bank)) (groupOf o (y .bank))) 1 2))
+
+-- what a rule names of the modes, or of the classes
+pub data Named : Type 0 where
+  every : Named
+  one : ℕ → Named
+  two : ℕ → ℕ → Named
+
+abbrev pub names : Named → ℕ → Bool
+names every x = true
+names (one a) x = eqb x a
+names (two a b) x = eqb x a || eqb x b
+
+pub record Pair : Type 0 where
+  pub first : CommandKind
+  pub second : CommandKind
+  pub classes : Named
+
+infix 70 _to_within_
+abbrev pub _to_within_ : CommandKind → CommandKind → Named → Pair
+a to b within c = record { first = a; second = b; classes = c }
+
+pub record Rule : Type 0 where
+  pub number : ℕ
+  pub modes : Named
+  pub pairs : List Pair
+
+abbrev pub rule : ℕ → Named → List Pair → Rule
+rule n modes pairs = record { number = n; modes = modes; pairs = pairs }
+
+-- the rules 1 to 19, a line for each row of the table. One that names no class holds for every class, and one that names no mode for every mode
+unfoldable pub rules : List Rule
+rules =
+    rule 1 every (Act to Act within one 0 ∷ []) ∷
+    rule 2 every (Act to Act within two 1 2 ∷ []) ∷
+    rule 3 every (Act to Rd within one 0 ∷ Act to Wr within one 0 ∷ []) ∷
+    rule 4 every (Act to Prepb within one 0 ∷ Act to Preab within every ∷ []) ∷
+    rule 5 (one 0) (Rd to Rd within every ∷ Wr to Wr within every ∷ []) ∷
+    rule 6 (one 1) (Rd to Rd within two 0 1 ∷ Wr to Wr within two 0 1 ∷ []) ∷
+    rule 7 (one 1) (Rd to Rd within one 2 ∷ Wr to Wr within one 2 ∷ []) ∷
+    rule 8 every (Rd to Wr within every ∷ []) ∷
+    rule 9 every (Rd to Prepb within one 0 ∷ Rd to Preab within every ∷ []) ∷
+    rule 10 (one 0) (Wr to Rd within every ∷ []) ∷
+    rule 11 (one 1) (Wr to Rd within two 0 1 ∷ []) ∷
+    rule 12 (one 1) (Wr to Rd within one 2 ∷ []) ∷
+    rule 13 every (Wr to Prepb within one 0 ∷ Wr to Preab within every ∷ []) ∷
+    rule 14 every (Prepb to Act within one 0 ∷ Prepb to Refpb within one 0 ∷ []) ∷
+    rule 15 every (Preab to Act within every ∷ Preab to Refab within every ∷ []) ∷
+    rule 16 every (Prepb to Prepb within every ∷ []) ∷
+    rule 17 every (Refab to Act within every ∷ Refab to Refab within every ∷ []) ∷
+    rule 18 every (Refpb to Act within one 0 ∷ Refpb to Refpb within one 0 ∷ []) ∷
+    rule 19 every (Refpb to Refpb within two 1 2 ∷ []) ∷
+    []
+
+-- some pair of the rule is these two kinds, and names the class
+unfoldable pub covers : ℕ → CommandKind → CommandKind → List Pair → Bool
+covers class a b [] = false
+covers class a b (p ∷ ps) = sameKind a (p .first) && sameKind b (p .second) && names (p .classes) class || covers class a b ps
+
+-- the rule holds in the opening's mode, for a class and two kinds
+abbrev pub holds : Opening → ℕ → CommandKind → CommandKind → Rule → Bool
+holds o class a b r = names (r .modes) (o .mode) && covers class a b (r .pairs)
+
+-- a rule binds two commands of one rank
+abbrev pub binds : Opening → Rule → Command → Command → Bool
+binds o r x y = eqb (x .rank) (y .rank) && holds o (classOf o x y) (x .kind) (y .kind) r
+
+-- the numbers of the rules of a list that hold
+unfoldable pub matching : Opening → ℕ → CommandKind → CommandKind → List Rule → List ℕ
+matching o class a b [] = []
+matching o class a b (r ∷ rs) = cond (holds o class a b r) (r .number ∷ matching o class a b rs) (matching o class a b rs)
+
+abbrev pub firstOr0 : List ℕ → ℕ
+firstOr0 [] = 0
+firstOr0 (n ∷ ns) = n
+
+abbrev pub modeCount : ℕ
+modeCount = 2
+
+-- the number of the rule that holds, 0 where none does
+unfoldable pub ruleGap : Opening → ℕ → CommandKind → CommandKind → ℕ
+ruleGap o class a b = firstOr0 (matching o class a b rules)
+
+-- the table's entry: the number of the rule that holds; 0 where none does, and in a mode that document 01 does not know
+unfoldable pub tableGap : Opening → ℕ → CommandKind → CommandKind → ℕ
+tableGap o class a b = cond (ltb (o .mode) modeCount) (ruleGap o class a b) 0
+
+-- the table: one number for each mode, class, first and second kind, in this order
+abbrev pub tableLength : ℕ
+tableLength = 294
+
+abbrev pub tablePlace : Opening → ℕ → CommandKind → CommandKind → ℕ
+tablePlace o class a b = ((o .mode * 3 + class) * 7 + (codeOf a - 1)) * 7 + (codeOf b - 1)
+
+abbrev pub kindAt : ℕ → CommandKind
+kindAt i = getD (Act ∷ Rd ∷ Wr ∷ Prepb ∷ Preab ∷ Refab ∷ Refpb ∷ []) i Act
+
+abbrev pub inMode : ℕ → Opening
+inMode m = record { ratio = 1; ranks = 1; mode = m; client = 0 }
+
+abbrev pub matchingAt : ℕ → List ℕ
+matchingAt i = matching (inMode (i / 147)) (i / 49 % 3) (kindAt (i / 7 % 7)) (kindAt (i % 7)) rules
+
+-- 0 stands where no rule holds, and a number where that rule holds and no other
+abbrev pub alone : ℕ → List ℕ → Bool
+alone n [] = eqb n 0
+alone n (m ∷ []) = eqb n m && ltb 0 m
+alone n (m ∷ k ∷ ms) = false
+
+unfoldable pub alonePlaces : ℕ → List ℕ → Bool
+alonePlaces i [] = true
+alonePlaces i (n ∷ ns) = alone n (matchingAt i) && alonePlaces (suc i) ns
+
+-- the test of agreement with the list, at every entry
+unfoldable pub agrees : List ℕ → Bool
+agrees table = eqb (length table) tableLength && alonePlaces 0 table
