@@ -1,10 +1,14 @@
 -- Laws about the code numbers of the kinds.
-use mathlib.Core.Path.{_≡_, refl}
-use Prim.Native.Nat.{ℕ, _-_, _≤_, _<_}
-use lib.Dec.{lit≤, lit<}
+use mathlib.Core.Path.{_≡_, refl, sym, _∙_, ap}
+use mathlib.Core.Bool.{Bool, true, false, cond}
+use Prim.Native.Nat.{ℕ, _-_, _≤_}
+use native.Mathlib.Omega.{arith}
+use lib.Dec.{lit≤, eqb}
+use borrow.Author.Tests.{eqb-true}
 use Rattle.timing.specs.declared.kinds.CommandKind.{CommandKind}
 use Rattle.timing.specs.declared.kinds.CommandKind.the-variants.{Act, Rd, Wr, Prepb, Preab, Refab, Refpb}
-use Rattle.timing.specs.declared.kinds.MaybeKind.the-variants.{Kind}
+use Rattle.timing.specs.declared.kinds.MaybeKind.{MaybeKind}
+use Rattle.timing.specs.declared.kinds.MaybeKind.the-variants.{Kind, NoKind}
 use Rattle.timing.specs.Kinds.{codeOf, kindOf}
 use Rattle.timing.specs.Rules.{kindAt}
 
@@ -30,3 +34,26 @@ kind-of-code = by-kind (λ k. kindOf (codeOf k) ≡ Kind k) refl refl refl refl 
 
 pub kind-at-code : (k : CommandKind) → kindAt (codeOf k - 1) ≡ k
 kind-at-code = by-kind (λ k. kindAt (codeOf k - 1) ≡ k) refl refl refl refl refl refl refl
+
+abbrev kind-or : MaybeKind → CommandKind
+kind-or (Kind k) = k
+kind-or NoKind = Act
+
+-- and from a number that names a kind to the kind and back
+pub code-of-kind : (n : ℕ) (k : CommandKind) → kindOf n ≡ Kind k → codeOf k ≡ n
+code-of-kind n k = go (eqb n 1) (eqb n 2) (eqb n 3) (eqb n 4) (eqb n 5) (eqb n 6) (eqb n 7) refl refl refl refl refl refl refl
+  where
+    by : (m : ℕ) (j : CommandKind) → codeOf j ≡ m → eqb n m ≡ true → Kind j ≡ Kind k → codeOf k ≡ n
+    by m j c e q = ap codeOf (sym (ap kind-or q)) ∙ c ∙ sym (eqb-true n m e)
+
+    go : (a b c d e f g : Bool) → eqb n 1 ≡ a → eqb n 2 ≡ b → eqb n 3 ≡ c → eqb n 4 ≡ d → eqb n 5 ≡ e → eqb n 6 ≡ f → eqb n 7 ≡ g
+        → cond a (Kind Act) (cond b (Kind Rd) (cond c (Kind Wr) (cond d (Kind Prepb) (cond e (Kind Preab) (cond f (Kind Refab) (cond g (Kind Refpb) NoKind)))))) ≡ Kind k
+        → codeOf k ≡ n
+    go true b c d e f g p1 p2 p3 p4 p5 p6 p7 q = by 1 Act refl p1 q
+    go false true c d e f g p1 p2 p3 p4 p5 p6 p7 q = by 2 Rd refl p2 q
+    go false false true d e f g p1 p2 p3 p4 p5 p6 p7 q = by 3 Wr refl p3 q
+    go false false false true e f g p1 p2 p3 p4 p5 p6 p7 q = by 4 Prepb refl p4 q
+    go false false false false true f g p1 p2 p3 p4 p5 p6 p7 q = by 5 Preab refl p5 q
+    go false false false false false true g p1 p2 p3 p4 p5 p6 p7 q = by 6 Refab refl p6 q
+    go false false false false false false true p1 p2 p3 p4 p5 p6 p7 q = by 7 Refpb refl p7 q
+    go false false false false false false false p1 p2 p3 p4 p5 p6 p7 q = absurd (let z : _≡_ {A = ℕ} 0 1 = cc in omega arith)

@@ -1,0 +1,11 @@
+-- K1 to K13, every part of each, as one claim about the rules themselves.
+use lib.Dec.{T}
+use Rattle.timing.specs.Rules.{rules, covers, matching}
+use Rattle.timing.specs.Earliest.{reach, floor, pairAsks, acts, fourAsks, asks, latest, earliest}
+use Rattle.history.specs.Records.{standing}
+use Rattle.history.specs.Answers.{firstOf, offerOn, earliestOn, fits, follows, fine}
+use Rattle.history.specs.Cases.{kCases, allRight}
+
+pub k-cases : T (allRight kCases)
+unfolding rules covers matching reach floor pairAsks acts fourAsks asks latest earliest standing firstOf offerOn earliestOn fits follows fine kCases allRight
+k-cases = tt

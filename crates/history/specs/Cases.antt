@@ -1,0 +1,96 @@
+-- The cases checked by hand, K1 to K13: settings, the records that stand, a question, and the answer that it must get.
+use mathlib.Core.Bool.{Bool, true, _&&_}
+use mathlib.Core.List.{List, [], _∷_, _++_, map, reverse}
+use Prim.Native.Nat.{ℕ, _+_, _-_}
+use lib.Dec.{eqb}
+use lib.ListN.{set}
+use Rattle.timing.specs.declared.clocks.DramCycles.{DramCycles}
+use Rattle.timing.specs.declared.kinds.CommandKind.{CommandKind}
+use Rattle.timing.specs.declared.kinds.CommandKind.the-variants.{Act, Rd, Wr, Prepb, Preab, Refab, Refpb}
+use Rattle.timing.specs.declared.rules.Command.{Command}
+use Rattle.timing.specs.Kinds.{codeOf}
+use Rattle.timing.specs.Earliest.{Settings}
+use Rattle.history.specs.Records.{Record, opening, command, takeBack, History}
+use Rattle.history.specs.Answers.{Reply, replyOf, maxRecords, offerOn, earliestOn, fine}
+
+abbrev pub gaps : List ℕ → List DramCycles
+gaps ns = map (λ n. record { 0 = n }) ns
+
+-- settings A, at a ratio and a mode: one rank, client 7
+abbrev pub settings : ℕ → ℕ → List ℕ → Settings
+settings ratio mode gs = record { opening = record { ratio = ratio; ranks = 1; mode = mode; client = 7 }; gaps = gaps gs }
+
+abbrev pub gapsA : List ℕ
+gapsA = 60 ∷ 8 ∷ 18 ∷ 42 ∷ 8 ∷ 8 ∷ 6 ∷ 20 ∷ 7 ∷ 30 ∷ 30 ∷ 25 ∷ 40 ∷ 18 ∷ 21 ∷ 2 ∷ 280 ∷ 140 ∷ 90 ∷ 32 ∷ []
+
+-- gap n is v instead
+abbrev pub changed : ℕ → ℕ → List ℕ → List ℕ
+changed n v gs = set gs (n - 1) v
+
+-- a command of rank 0 of the session that record 0 opened
+abbrev pub at : CommandKind → ℕ → ℕ → Record
+at kind bank cycle = command 0 (record { kind = kind; rank = 0; bank = bank }) cycle
+
+pub data Question : Type 0 where
+  earliest : CommandKind → ℕ → Question
+  offer : CommandKind → ℕ → ℕ → Question
+
+pub record Case : Type 0 where
+  pub records : History
+  pub question : Question
+  pub answer : Reply
+
+abbrev pub reply : ℕ → ℕ → ℕ → Reply
+reply n cycle gap = record { number = n; cycle = cycle; gap = gap }
+
+-- a session with these settings, its records after the opening, oldest first, a question, and its answer
+abbrev pub case : Settings → List Record → Question → Reply → Case
+case s rs q r = record { records = reverse (opening s ∷ rs); question = q; answer = r }
+
+-- K1 to K12
+abbrev pub kFirst : List Case
+kFirst =
+    let a = settings 4 0 gapsA in
+    let four = at Act 0 0 ∷ at Act 1 2 ∷ at Act 2 4 ∷ at Act 3 6 ∷ [] in
+    let wide = settings 4 0 (changed 20 40 gapsA) in
+    let grouped = settings 1 1 gapsA in
+    let short = settings 1 0 (changed 2 8 (changed 1 4 gapsA)) in
+    case a [] (earliest Act 0) (reply 0 0 0) ∷
+    case a (at Act 0 0 ∷ []) (offer Rd 0 4) (reply 7 5 3) ∷
+    case a (at Act 0 0 ∷ []) (offer Rd 0 5) (reply 0 5 0) ∷
+    case a (at Act 0 0 ∷ []) (earliest Act 1) (reply 0 2 2) ∷
+    case a (at Act 0 0 ∷ []) (earliest Act 0) (reply 0 15 1) ∷
+    case a four (earliest Act 4) (reply 0 8 2) ∷
+    case wide four (earliest Act 4) (reply 0 10 20) ∷
+    case wide (four ++ takeBack 0 ∷ []) (earliest Act 4) (reply 0 6 2) ∷
+    case a (at Act 0 0 ∷ at Prepb 0 20 ∷ []) (earliest Act 0) (reply 0 25 14) ∷
+    case grouped (at Rd 0 10 ∷ []) (earliest Rd 1) (reply 0 18 6) ∷
+    case grouped (at Rd 0 10 ∷ []) (earliest Rd 2) (reply 0 16 7) ∷
+    case short (at Act 0 0 ∷ []) (earliest Act 0) (reply 0 4 1) ∷
+    []
+
+-- K13: any command at the last cycle, then a PREPB that no gap holds back, asked and offered
+abbrev pub kLast : CommandKind → List Case
+kLast kind =
+    let a = settings 4 0 gapsA in
+    case a (at kind 0 1099511627775 ∷ []) (earliest Prepb 1) (reply 0 1099511627776 0) ∷
+    case a (at kind 0 1099511627775 ∷ []) (offer Prepb 1 1099511627776) (reply 5 0 0) ∷
+    []
+
+unfoldable pub kCases : List Case
+kCases = kFirst ++ kLast Act ++ kLast Rd ++ kLast Wr ++ kLast Prepb ++ kLast Preab ++ kLast Refab ++ kLast Refpb
+
+abbrev pub answered : History → Question → Reply
+answered h (earliest k bank) = earliestOn h (codeOf k) 0 bank
+answered h (offer k bank t) = replyOf (offerOn maxRecords h (codeOf k) 0 bank t)
+
+abbrev pub same : Reply → Reply → Bool
+same x y = eqb (x .number) (y .number) && eqb (x .cycle) (y .cycle) && eqb (x .gap) (y .gap)
+
+-- the records stand, and the question gets the answer
+abbrev pub right : Case → Bool
+right k = fine (k .records) && same (answered (k .records) (k .question)) (k .answer)
+
+unfoldable pub allRight : List Case → Bool
+allRight [] = true
+allRight (k ∷ ks) = right k && allRight ks
