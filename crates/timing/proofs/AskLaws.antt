@@ -7,7 +7,7 @@ use Prim.Native.Nat.{ℕ, _≤_, _<_}
 use native.Mathlib.Omega.{arith}
 use lib.Dec.{ltb, eqb}
 use borrow.Author.Tests.{ltb-true, ltb-false, eqb-true, eqb-false}
-use Rattle.timing.specs.Earliest.{Ask, later, latest}
+use Rattle.timing.specs.Earliest.{Ask, forLater, forSame, withLower, later, latest}
 
 infix 40 _≼_
 -- b is at least as late as a, and for the same cycle has a number at most a's
@@ -35,27 +35,20 @@ pub ≼-antisym : (a b : Ask) → a ≼ b → b ≼ a → a ≡ b
 
 -- `later` is one of the two and above both
 pub later-one : (a b : Ask) → (later a b ≡ a) ⊎ (later a b ≡ b)
-later-one a b = go (ltb (a .cycle) (b .cycle) || eqb (a .cycle) (b .cycle) && ltb (b .gap) (a .gap))
+later-one a b = go (forLater a b || forSame a b && withLower a b)
   where
     go : (t : Bool) → (cond t b a ≡ a) ⊎ (cond t b a ≡ b)
     go true = inr refl
     go false = inl refl
 
 pub later-above : (a b : Ask) → (a ≼ later a b) × (b ≼ later a b)
-later-above a b = go (ltb (a .cycle) (b .cycle)) (eqb (a .cycle) (b .cycle)) (ltb (b .gap) (a .gap)) refl refl refl
+later-above a b = go (forLater a b) (forSame a b) (withLower a b) refl refl refl
   where
-    go : (x y z : Bool) → ltb (a .cycle) (b .cycle) ≡ x → eqb (a .cycle) (b .cycle) ≡ y → ltb (b .gap) (a .gap) ≡ z
-        → (a ≼ cond (x || y && z) b a) × (b ≼ cond (x || y && z) b a)
-    go true y z p q r =
-        let l = ltb-true (a .cycle) (b .cycle) p in (record { cycle = omega arith; gap = λ e. omega arith }, ≼-refl b)
-    go false true true p q r =
-        let e = eqb-true (a .cycle) (b .cycle) q in let l = ltb-true (b .gap) (a .gap) r in (record { cycle = omega arith; gap = λ _. omega arith }, ≼-refl b)
-    go false true false p q r =
-        let e = eqb-true (a .cycle) (b .cycle) q in let l = ltb-false (b .gap) (a .gap) r in (≼-refl a, record { cycle = omega arith; gap = λ _. omega arith })
-    go false false z p q r =
-        let l = ltb-false (a .cycle) (b .cycle) p in
-        let n = eqb-false (a .cycle) (b .cycle) q in
-        (≼-refl a, record { cycle = omega arith; gap = λ e. absurd (n (sym e)) })
+    go : (x y z : Bool) → forLater a b ≡ x → forSame a b ≡ y → withLower a b ≡ z → (a ≼ cond (x || y && z) b a) × (b ≼ cond (x || y && z) b a)
+    go true y z p q r = (record { cycle = omega (arith, ltb-true); gap = λ e. omega (arith, ltb-true) }, ≼-refl b)
+    go false true true p q r = (record { cycle = omega (arith, eqb-true); gap = λ e. omega (arith, ltb-true) }, ≼-refl b)
+    go false true false p q r = (≼-refl a, record { cycle = omega (arith, eqb-true); gap = λ e. omega (arith, ltb-false) })
+    go false false z p q r = (≼-refl a, record { cycle = omega (arith, ltb-false); gap = λ e. absurd (eqb-false (a .cycle) (b .cycle) q (sym e)) })
 
 pub latest-above-first : (a : Ask) (bs : List Ask) → a ≼ latest a bs
 unfolding latest

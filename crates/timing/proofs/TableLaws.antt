@@ -1,6 +1,6 @@
 -- A table that passes the test `agrees` holds the list's rule at each entry, and no second rule of the list holds there.
 use mathlib.Core.Path.{_≡_, refl, sym, _∙_, ap, subst}
-use mathlib.Core.Bool.{Bool, true, false, _&&_}
+use mathlib.Core.Bool.{Bool, true, false, cond, _&&_}
 use mathlib.Core.List.{List, [], _∷_}
 use Prim.Native.Nat.{ℕ, zero, suc, _+_, _-_, _*_, _/_, _%_, _<_, _≤_}
 use native.Mathlib.Nat.{add-zero, zero-add, add-suc, suc-add, le-of-suc-le-suc, not-suc-le-zero}
@@ -11,7 +11,7 @@ use borrow.Author.Tests.{lt-ltb}
 use Rattle.timing.specs.declared.kinds.CommandKind.{CommandKind}
 use Rattle.timing.specs.declared.rules.Opening.{Opening}
 use Rattle.timing.specs.Kinds.{codeOf}
-use Rattle.timing.specs.Rules.{rules, matching, matchingAt, covers, inMode, kindAt, ruleGap, firstOr0, tableGap, tablePlace, alone, alonePlaces, agrees}
+use Rattle.timing.specs.Rules.{rules, matching, matchingAt, inMode, kindAt, ruleGap, firstOr0, tableGap, tablePlace, alone, alonePlaces, agrees, holds, Rule}
 use Rattle.timing.proofs.KindLaws.{code-low, code-high, kind-at-code}
 
 pub and-left : (a b : Bool) → T (a && b) → T a
@@ -68,9 +68,10 @@ code-place : (k : CommandKind) → codeOf k - 1 < 7
 code-place k = omega (arith, code-low k, code-high k)
 
 -- the rules look at nothing of an opening but its mode
-mode-only : (o : Opening) (class : ℕ) (a b : CommandKind) → matching (inMode (o .mode)) class a b rules ≡ matching o class a b rules
-unfolding matching rules covers
-mode-only o class a b = refl
+mode-only : (o : Opening) (class : ℕ) (a b : CommandKind) (rs : List Rule) → matching (inMode (o .mode)) class a b rs ≡ matching o class a b rs
+unfolding matching
+mode-only o class a b [] = refl
+mode-only o class a b (r ∷ rs) = ap (λ (ns : List ℕ). cond (holds o class a b r) (r .number ∷ ns) ns) (mode-only o class a b rs)
 
 decoded : (p m class : ℕ) (a b : CommandKind) → 0 + p ≡ p → p / 147 ≡ m → p / 49 % 3 ≡ class → kindAt (p / 7 % 7) ≡ a → kindAt (p % 7) ≡ b
     → matchingAt (0 + p) ≡ matching (inMode m) class a b rules
@@ -90,7 +91,7 @@ module _ (t : List ℕ) (agreed : T (agrees t)) (o : Opening) (class : ℕ) (a b
       let size : length t ≡ 294 = eqb→eq (length t) 294 (and-left (eqb (length t) 294) (alonePlaces 0 t) agreed) in
       let low : p < length t = subst (λ (n : ℕ). p < n) (sym size) (place-low m class x y hm hc hx hy) in
       let found = alone-only (getD t p 0) (matchingAt (0 + p)) (alone-at t 0 (and-right (eqb (length t) 294) (alonePlaces 0 t) agreed) p low) in
-      sym (mode-only o class a b)
+      sym (mode-only o class a b rules)
       ∙ sym (decoded p m class a b (zero-add p) (place-mode m class x y hm hc hx hy) (place-class m class x y hm hc hx hy)
       (ap kindAt (place-first m class x y hm hc hx hy) ∙ kind-at-code a) (ap kindAt (place-second m class x y hm hc hx hy) ∙ kind-at-code b))
       ∙ found

@@ -119,9 +119,18 @@ fourAsks st c = cond (sameKind (c .kind) Act) (map (λ x. asked st x tFAW) (four
 unfoldable pub asks : Standing → Command → List Ask
 asks st c = pairAsks st c (st .survivors) ++ fourAsks st c
 
--- of two asks, the one for the later cycle; for one cycle, the one with the lower number
+abbrev pub forLater : Ask → Ask → Bool
+forLater a b = ltb (a .cycle) (b .cycle)
+
+abbrev pub forSame : Ask → Ask → Bool
+forSame a b = eqb (a .cycle) (b .cycle)
+
+abbrev pub withLower : Ask → Ask → Bool
+withLower a b = ltb (b .gap) (a .gap)
+
+-- of two asks, b if it asks for a later cycle, or for the same cycle with a lower number; else a
 abbrev pub later : Ask → Ask → Ask
-later a b = cond (ltb (a .cycle) (b .cycle) || eqb (a .cycle) (b .cycle) && ltb (b .gap) (a .gap)) b a
+later a b = cond (forLater a b || forSame a b && withLower a b) b a
 
 unfoldable pub latest : Ask → List Ask → Ask
 latest a [] = a
