@@ -16,7 +16,7 @@ use Rattle.timing.specs.Kinds.{sameKind}
 use Rattle.timing.specs.Rules.{Rule, rules, classOf, holds, binds, matching}
 use Rattle.timing.specs.Earliest.{Stamped, Standing, Ask, ByPair, ByFour, NthAct, newest, behind-act, behind-other, AsksFor, LaterThanLast, Legal, NamedGap, tFAW, reach, cycleAfter, floor, isAct, asked, pairAsks, acts, fourthAct, fourAsks, asks, later, latest, earliest}
 use Rattle.timing.proofs.AskLaws.{_≼_, ask-path, latest-above-first, latest-above, latest-one}
-use Rattle.timing.proofs.TableLaws.{and-left, and-right}
+use Rattle.timing.proofs.TableLaws.{and-left, and-right, numbers-above, all-numbered}
 
 both : (a b : Bool) → T a → T b → T (a && b)
 both true b t u = u
@@ -160,22 +160,6 @@ nth-out rank (y ∷ ys) n {x} m = go (isAct rank y) refl n m (λ (k : ℕ) (i : 
     go true e zero m below = newest (is-true (isAct rank y) e) (List·Memᴰ·eq-of-singleton m)
     go true e (suc k) m below = behind-act (is-true (isAct rank y) e) (below k m)
     go false e k m below = behind-other (λ u. subst T e u) (below k m)
-
--- the rules' numbers are above 0
-numbered : List Rule → Bool
-numbered [] = true
-numbered (r ∷ rs) = ltb 0 (r .number) && numbered rs
-
-numbers-above : (rs : List Rule) → T (numbered rs) → {r : Rule} → List·Memᴰ r rs → 0 < r .number
-unfolding numbered
-numbers-above [] t m = absurd (List·Memᴰ·not-nil m)
-numbers-above (q ∷ qs) t {r} m =
-    ⊎-elim (λ (e : r ≡ q). subst (λ (x : Rule). 0 < x .number) (sym e) (ltb→lt 0 (q .number) (and-left (ltb 0 (q .number)) (numbered qs) t)))
-    (λ (m′ : List·Memᴰ r qs). numbers-above qs (and-right (ltb 0 (q .number)) (numbered qs) t) m′) (List·Memᴰ·cases-cons m)
-
-all-numbered : T (numbered rules)
-unfolding numbered rules
-all-numbered = tt
 
 module _ (st : Standing) (c : Command) where
   -- what the wording asks for is in the list of asks, and nothing else is

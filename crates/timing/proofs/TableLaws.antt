@@ -1,17 +1,18 @@
 -- A table that passes the test `agrees` holds the list's rule at each entry, and no second rule of the list holds there.
 use mathlib.Core.Path.{_≡_, refl, sym, _∙_, ap, subst}
-use mathlib.Core.Bool.{Bool, true, false, cond, _&&_}
-use mathlib.Core.List.{List, [], _∷_}
+use mathlib.Core.Logic.{⊎-elim}
+use mathlib.Core.Bool.{Bool, true, false, cond, _&&_, _||_}
+use mathlib.Core.List.{List, [], _∷_, List·Memᴰ, List·Memᴰ·cases-cons, List·Memᴰ·not-nil}
 use Prim.Native.Nat.{ℕ, zero, suc, _+_, _-_, _*_, _/_, _%_, _<_, _≤_}
 use native.Mathlib.Nat.{add-zero, zero-add, add-suc, suc-add, le-of-suc-le-suc, not-suc-le-zero}
 use native.Mathlib.Omega.{arith}
-use lib.Dec.{T, eqb, eqb→eq, ltb}
+use lib.Dec.{T, eqb, eqb→eq, ltb, ltb→lt, lit<}
 use lib.ListN.{length, getD}
 use borrow.Author.Tests.{lt-ltb}
 use Rattle.timing.specs.declared.kinds.CommandKind.{CommandKind}
 use Rattle.timing.specs.declared.rules.Opening.{Opening}
-use Rattle.timing.specs.Kinds.{codeOf}
-use Rattle.timing.specs.Rules.{rules, matching, matchingAt, inMode, kindAt, ruleGap, firstOr0, tableGap, tablePlace, alone, alonePlaces, agrees, holds, Rule}
+use Rattle.timing.specs.Kinds.{codeOf, allBanks}
+use Rattle.timing.specs.Rules.{classFor, rules, matching, matchingAt, inMode, kindAt, ruleGap, firstOr0, tableGap, tablePlace, alone, alonePlaces, agrees, holds, Rule}
 use Rattle.timing.proofs.KindLaws.{code-low, code-high, kind-at-code}
 
 pub and-left : (a b : Bool) → T (a && b) → T a
@@ -100,3 +101,54 @@ module _ (t : List ℕ) (agreed : T (agrees t)) (o : Opening) (class : ℕ) (a b
   pub table-entry : getD t (tablePlace o class a b) 0 ≡ tableGap o class a b
   unfolding tableGap ruleGap
   table-entry = rw (lt-ltb (o .mode) 2 hm, matching-only) (sym (first-only (getD t (tablePlace o class a b) 0)))
+
+-- the rules' numbers are 1 to 19
+pub numbered : List Rule → Bool
+numbered [] = true
+numbered (r ∷ rs) = ltb 0 (r .number) && ltb (r .number) 20 && numbered rs
+
+pub all-numbered : T (numbered rules)
+unfolding numbered rules
+all-numbered = tt
+
+module _ (r : Rule) (rs : List Rule) (t : T (numbered (r ∷ rs))) where
+  numbered-head : (0 < r .number) × (r .number < 20)
+  unfolding numbered
+  numbered-head =
+      let first = and-left (ltb 0 (r .number) && ltb (r .number) 20) (numbered rs) t in
+      (ltb→lt 0 (r .number) (and-left (ltb 0 (r .number)) (ltb (r .number) 20) first), ltb→lt (r .number) 20 (and-right (ltb 0 (r .number)) (ltb (r .number) 20) first))
+
+  numbered-tail : T (numbered rs)
+  unfolding numbered
+  numbered-tail = and-right (ltb 0 (r .number) && ltb (r .number) 20) (numbered rs) t
+
+pub numbers-above : (rs : List Rule) → T (numbered rs) → {r : Rule} → List·Memᴰ r rs → 0 < r .number
+numbers-above [] t m = absurd (List·Memᴰ·not-nil m)
+numbers-above (q ∷ qs) t {r} m =
+    ⊎-elim (λ (e : r ≡ q). subst (λ (x : Rule). 0 < x .number) (sym e) (numbered-head q qs t .0))
+    (λ (m′ : List·Memᴰ r qs). numbers-above qs (numbered-tail q qs t) m′) (List·Memᴰ·cases-cons m)
+
+module _ (o : Opening) (class : ℕ) (a b : CommandKind) where
+  first-low : (rs : List Rule) → T (numbered rs) → firstOr0 (matching o class a b rs) < 20
+  unfolding matching
+  first-low [] t = lit< tt
+  first-low (r ∷ rs) t = go (holds o class a b r) (first-low rs (numbered-tail r rs t))
+    where
+      go : (y : Bool) → firstOr0 (matching o class a b rs) < 20 → firstOr0 (cond y (r .number ∷ matching o class a b rs) (matching o class a b rs)) < 20
+      go true below = numbered-head r rs t .1
+      go false below = below
+
+  pub gap-low : tableGap o class a b < 20
+  unfolding tableGap ruleGap
+  gap-low = go (ltb (o .mode) 2)
+    where
+      go : (y : Bool) → cond y (firstOr0 (matching o class a b rules)) 0 < 20
+      go true = first-low rules all-numbered
+      go false = lit< tt
+
+pub class-low : (a b : CommandKind) (near : ℕ) → near < 3 → classFor a b near < 3
+class-low a b near l = go (allBanks a || allBanks b)
+  where
+    go : (y : Bool) → cond y 2 near < 3
+    go true = lit< tt
+    go false = l

@@ -1,7 +1,11 @@
 -- The two clocks: a gap of g DRAM cycles asks for g / ratio controller cycles, rounded up.
 use Prim.Native.Nat.{ℕ, _+_, _-_, _/_}
+use Rattle.timing.specs.declared.clocks.ControllerCycles.{ControllerCycles}
 use Rattle.timing.specs.declared.clocks.DramCycles.{DramCycles}
 use Rattle.timing.specs.declared.rules.Opening.{Opening}
+
+abbrev pub cycles : ℕ → ControllerCycles
+cycles n = record { 0 = n }
 
 abbrev pub ceilDiv : ℕ → ℕ → ℕ
 ceilDiv g ratio = (g + (ratio - 1)) / ratio

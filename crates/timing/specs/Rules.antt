@@ -3,7 +3,7 @@ use mathlib.Core.Bool.{Bool, true, false, cond, _&&_, _||_}
 use mathlib.Core.List.{List, [], _∷_}
 use Prim.Native.Nat.{ℕ, suc, _+_, _-_, _*_, _/_, _%_}
 use lib.Dec.{eqb, ltb}
-use lib.ListN.{length, getD}
+use lib.ListN.{length}
 use Rattle.timing.specs.declared.kinds.CommandKind.{CommandKind}
 use Rattle.timing.specs.declared.kinds.CommandKind.the-variants.{Act, Rd, Wr, Prepb, Preab, Refab, Refpb}
 use Rattle.timing.specs.declared.rules.Opening.{Opening}
@@ -15,11 +15,14 @@ abbrev pub groupOf : Opening → ℕ → ℕ
 groupOf o bank = bank / 2
 
 -- class 0: both name the same bank; 1: different banks, same group; 2: everything else, and always when either is PREAB or REFAB
+abbrev pub nearness : Opening → ℕ → ℕ → ℕ
+nearness o a b = cond (eqb a b) 0 (cond (eqb (groupOf o a) (groupOf o b)) 1 2)
+
+abbrev pub classFor : CommandKind → CommandKind → ℕ → ℕ
+classFor a b near = cond (allBanks a || allBanks b) 2 near
+
 abbrev pub classOf : Opening → Command → Command → ℕ
-classOf o x y =
-    cond (allBanks (x .kind) || allBanks (y .kind)) 2
-    (cond (eqb (x .bank) (y .bank)) 0
-    (cond (eqb (groupOf o (x .bank)) (groupOf o (y .bank))) 1 2))
+classOf o x y = classFor (x .kind) (y .kind) (nearness o (x .bank) (y .bank))
 
 -- what a rule names of the modes, or of the classes
 pub data Named : Type 0 where
@@ -114,7 +117,8 @@ abbrev pub tablePlace : Opening → ℕ → CommandKind → CommandKind → ℕ
 tablePlace o class a b = ((o .mode * 3 + class) * 7 + (codeOf a - 1)) * 7 + (codeOf b - 1)
 
 abbrev pub kindAt : ℕ → CommandKind
-kindAt i = getD (Act ∷ Rd ∷ Wr ∷ Prepb ∷ Preab ∷ Refab ∷ Refpb ∷ []) i Act
+kindAt i =
+    cond (eqb i 1) Rd (cond (eqb i 2) Wr (cond (eqb i 3) Prepb (cond (eqb i 4) Preab (cond (eqb i 5) Refab (cond (eqb i 6) Refpb Act)))))
 
 abbrev pub inMode : ℕ → Opening
 inMode m = record { ratio = 1; ranks = 1; mode = m; client = 0 }

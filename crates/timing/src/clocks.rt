@@ -1,16 +1,18 @@
 // The two clocks. Gaps are given in DRAM cycles, commands are stamped in controller cycles; only `rounded` goes from one to the other.
 ghost use mathlib.Core.Path.{_≡_};
-ghost use Rattle.timing.specs.Clocks.{roundedUp};
+ghost use Rattle.timing.specs.Clocks.{cycles, roundedUp};
 use crate::rules::Opening;
 
+#[repr(C)]
 pub struct DramCycles(pub u16);
 
+#[repr(C)]
 pub struct ControllerCycles(pub u64);
 
 impl DramCycles {
     // The controller cycles that a gap asks for. No opening has ratio 0; a state value may, and is answered 0.
     pub fn rounded(self, opening: Opening) -> ControllerCycles
-        ensures { λ r. ⌜ r .0 ≡ roundedUp opening self ⌝ }
+        ensures { λ r. ⌜ r ≡ cycles (roundedUp opening self) ⌝ }
     {
         let gap = self.0 as u64;
         let ratio = opening.ratio as u64;

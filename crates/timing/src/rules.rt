@@ -1,10 +1,12 @@
 // The settings of an opening, commands, their groups and classes.
 ghost use mathlib.Core.Path.{_≡_};
+ghost use Prim.Native.Nat.{_<_};
 ghost use Rattle.timing.specs.Kinds.{allBanks};
-ghost use Rattle.timing.specs.Rules.{groupOf, classOf};
+ghost use Rattle.timing.specs.Rules.{groupOf, nearness as nearnessOf, classFor};
 use crate::kinds::CommandKind;
 
 // What an opening says beside its twenty gaps.
+#[repr(C)]
 pub struct Opening {
     pub ratio: u8,
     pub ranks: u8,
@@ -39,22 +41,29 @@ pub fn all_banks(kind: CommandKind) -> bool
     }
 }
 
-pub fn class_of(opening: Opening, first: Command, second: Command) -> usize
-    ensures { λ r. ⌜ r ≡ classOf opening first second ⌝ }
+// How near two banks are: 0 the same, 1 of one group, 2 neither.
+pub fn nearness(opening: Opening, a: u8, b: u8) -> usize
+    ensures { λ r. ⌜ r ≡ nearnessOf opening a b ⌝ }
+    ensures { λ r. ⌜ r < 3 ⌝ }
 {
-    let first_kind = first.kind;
-    let second_kind = second.kind;
-    if all_banks(first_kind) {
-        return 2;
-    }
-    if all_banks(second_kind) {
-        return 2;
-    }
-    if first.bank == second.bank {
+    if a == b {
         return 0;
     }
-    if group_of(opening, first.bank) == group_of(opening, second.bank) {
+    if group_of(opening, a) == group_of(opening, b) {
         return 1;
     }
     2
+}
+
+// The class of two kinds whose banks are so near.
+pub fn class_for(first: CommandKind, second: CommandKind, near: usize) -> usize
+    ensures { λ r. ⌜ r ≡ classFor first second near ⌝ }
+{
+    if all_banks(first) {
+        return 2;
+    }
+    if all_banks(second) {
+        return 2;
+    }
+    near
 }

@@ -3,7 +3,7 @@ ghost use mathlib.Core.Path.{_≡_};
 ghost use Prim.Native.Nat.{_<_, _-_};
 ghost use lib.Dec.{T};
 ghost use Rattle.timing.specs.Kinds.{codeOf};
-ghost use Rattle.timing.specs.Rules.{agrees, tableGap};
+ghost use Rattle.timing.specs.Rules.{agrees, kindAt, tableGap};
 use crate::kinds::CommandKind;
 use crate::rules::Opening;
 
@@ -319,10 +319,25 @@ fn wide(x: u8) -> usize
 }
 
 // A kind's place in a row or a column of the table.
-fn place_of(kind: CommandKind) -> usize
+pub fn place_of(kind: CommandKind) -> usize
     ensures { λ r. ⌜ (r ≡ codeOf kind - 1) × (r < 7) ⌝ }
 {
     kind.number() as usize - 1
+}
+
+// The kind at a place of a row or a column.
+pub fn kind_at(place: usize) -> CommandKind
+    ensures { λ r. ⌜ r ≡ kindAt place ⌝ }
+{
+    match place {
+        1 => CommandKind::Rd,
+        2 => CommandKind::Wr,
+        3 => CommandKind::Prepb,
+        4 => CommandKind::Preab,
+        5 => CommandKind::Refab,
+        6 => CommandKind::Refpb,
+        _ => CommandKind::Act,
+    }
 }
 
 // The gap number at an entry of the table; 0 in a mode that no opening has.

@@ -1,0 +1,5 @@
+// One session in compact arrays.
+pub mod changes;
+pub mod scan;
+pub mod stamps;
+pub mod state;

@@ -1,0 +1,173 @@
+// The earliest cycle of a command and the gap that asks for it, from the arrays. An ask is one number, cycle * 32 + 31 - gap, so that the
+// latest ask, the lowest gap first, is a maximum.
+ghost use mathlib.Core.Path.{_≡_};
+ghost use Prim.Native.Nat.{ℕ, _+_, _*_, _≤_, _<_, max};
+ghost use lib.Dec.{T};
+ghost use lib.ListN.{getD};
+ghost use Rattle.timing.specs.Rules.{agrees};
+ghost use Rattle.session.specs.State.{roundedGaps};
+ghost use Rattle.session.specs.Scan.{stepOf, stepFor, stepsTo, askOf, scanTo, fourOf, largestAsk, unpacked, askIn};
+use crate::stamps::read_stamp;
+use timing::clocks::ControllerCycles;
+use timing::clocks::DramCycles;
+use timing::kinds::CommandKind;
+use timing::rules::Command;
+use timing::rules::Opening;
+use timing::rules::class_for;
+use timing::rules::nearness;
+use timing::table::gap_number;
+use timing::table::kind_at;
+
+pub fn larger(a: u64, b: u64) -> u64
+    ensures { λ r. ⌜ r ≡ max a b ⌝ }
+{
+    if a < b {
+        return b;
+    }
+    a
+}
+
+pub fn rounded_gaps(opening: Opening, gaps: [DramCycles; 20]) -> [ControllerCycles; 20]
+    ensures { λ r. ⌜ r ≡ roundedGaps opening gaps ⌝ }
+{
+    let mut rounded = [ControllerCycles(0); 20];
+    let mut i = 0;
+    while i < 20 {
+        let gap = gaps[i];
+        let cycles = gap.rounded(opening);
+        rounded[i] = cycles;
+        i += 1;
+    }
+    rounded
+}
+
+fn step_of(rounded: [ControllerCycles; 20], n: usize) -> u64
+    requires { ⌜ n < 21 ⌝ }
+    ensures { λ r. ⌜ (r ≡ stepOf rounded n) × (r < 2097152) ⌝ }
+{
+    if n == 0 {
+        return 0;
+    }
+    rounded[n - 1].0 % 65536 * 32 + (31 - n as u64)
+}
+
+fn step_for(
+    table: &[u8; 294],
+    opening: Opening,
+    rounded: [ControllerCycles; 20],
+    first: CommandKind,
+    second: CommandKind,
+    near: usize,
+) -> u64
+    requires { ⌜ T (agrees (now table)) ⌝ }
+    requires { ⌜ near < 3 ⌝ }
+    ensures { λ r. ⌜ (r ≡ stepFor opening rounded first second near) × (r < 2097152) ⌝ }
+{
+    let class = class_for(first, second, near);
+    step_of(rounded, gap_number(table, opening, class, first, second))
+}
+
+// The steps from each kind, for each nearness of the banks.
+fn steps(
+    table: &[u8; 294],
+    opening: Opening,
+    rounded: [ControllerCycles; 20],
+    second: CommandKind,
+) -> [u64; 21]
+    requires { ⌜ T (agrees (now table)) ⌝ }
+    ensures { λ r. ⌜ (r ≡ stepsTo opening rounded second) × ((i : ℕ) → getD r i 0 < 2097152) ⌝ }
+{
+    let mut found = [0u64; 21];
+    let mut i = 0;
+    while i < 21 {
+        let step = step_for(table, opening, rounded, kind_at(i / 3), second, i % 3);
+        found[i] = step;
+        i += 1;
+    }
+    found
+}
+
+fn ask_of(kept: u64, step: u64) -> u64
+    requires { ⌜ kept < 2199023255552 ⌝ }
+    requires { ⌜ step < 2097152 ⌝ }
+    ensures { λ r. ⌜ r ≡ askOf kept step ⌝ }
+{
+    if kept == 0 {
+        return 0;
+    }
+    if step == 0 {
+        return 0;
+    }
+    (kept - 1) * 32 + step
+}
+
+fn scan(
+    last: [ControllerCycles; 224],
+    steps: &[u64; 21],
+    opening: Opening,
+    base: usize,
+    bank: u8,
+    floor: u64,
+) -> u64
+    requires { ⌜ base + 112 ≤ 224 ⌝ }
+    requires { ⌜ ((i : ℕ) → getD (now steps) i 0 < 2097152) ⌝ }
+    ensures { λ r. ⌜ r ≡ scanTo last (now (steps .entry)) opening base bank floor 112 ⌝ }
+{
+    let mut best = floor;
+    let mut i = 0;
+    while i < 112 {
+        let near = nearness(opening, (i % 16) as u8, bank);
+        let kept = read_stamp(last[base + i]);
+        let ask = ask_of(kept.0, steps[i / 16 * 3 + near]);
+        best = larger(best, ask);
+        i += 1;
+    }
+    best
+}
+
+// What the fourth activate of the rank asks for, of an ACT; nothing of another kind.
+fn four(
+    activates: [ControllerCycles; 8],
+    rounded: [ControllerCycles; 20],
+    kind: CommandKind,
+    rank: usize,
+) -> u64
+    requires { ⌜ rank < 2 ⌝ }
+    ensures { λ r. ⌜ r ≡ fourOf activates rounded kind rank ⌝ }
+{
+    if kind.number() == CommandKind::ACT {
+        let kept = read_stamp(activates[rank * 4 + 3]);
+        return ask_of(kept.0, step_of(rounded, 20));
+    }
+    0
+}
+
+pub struct Earliest {
+    pub cycle: ControllerCycles,
+    pub gap: u64,
+}
+
+// Judging takes the arrays that it reads, and no more: a state by value would be copied at every call.
+pub fn earliest_of(
+    table: &[u8; 294],
+    last: [ControllerCycles; 224],
+    activates: [ControllerCycles; 8],
+    rounded: [ControllerCycles; 20],
+    latest: ControllerCycles,
+    opening: Opening,
+    command: Command,
+) -> Earliest
+    requires { ⌜ T (agrees (now table)) ⌝ }
+    ensures { λ r. ⌜ askIn r ≡ unpacked (largestAsk last activates rounded (latest .0) opening command) ⌝ }
+{
+    let kind = command.kind;
+    let rank = command.rank as usize % 2;
+    let found = steps(table, opening, rounded, kind);
+    let floor = read_stamp(latest).0 * 32 + 31;
+    let scanned = scan(last, &found, opening, rank * 112, command.bank, floor);
+    let largest = larger(scanned, four(activates, rounded, kind, rank));
+    Earliest {
+        cycle: ControllerCycles(largest / 32),
+        gap: 31 - largest % 32,
+    }
+}
