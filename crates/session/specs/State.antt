@@ -1,4 +1,4 @@
--- What the state becomes, for every state value: fresh, opened, a command pushed, a command popped.
+-- What the state becomes, for every state value: fresh, opened, a command pushed, a command popped. Each change but the first is one record more.
 use mathlib.Core.Bool.{cond}
 use mathlib.Core.List.{List, [], _∷_, map}
 use Prim.Native.Nat.{ℕ, _+_, _-_, _*_, _/_, _%_, min}
@@ -52,6 +52,10 @@ fourthOf a slot = cond (ltb slot 112) (stampAt a 3) (stampAt a 7)
 unfoldable pub roundedGaps : Opening → List DramCycles → List ControllerCycles
 roundedGaps o gaps = map (λ g. cycles (roundedUp o g)) gaps
 
+-- one more; a count that no call reaches is reduced first
+abbrev pub oneMore : ℕ → ℕ
+oneMore n = n % 4294967296 + 1
+
 unfoldable pub freshState : Session
 freshState =
     record {
@@ -80,8 +84,8 @@ openedState records o gaps =
       latest = cycles 0;
       survivors = 0;
       depth = 0;
-      number = records;
-      records = records;
+      number = records % 4294967296;
+      records = oneMore records;
       rounded = roundedGaps o gaps;
       opening = o;
       «is_open» = 1;
@@ -98,10 +102,10 @@ pushedState s c t =
       entries = set (s .entries) (s .position % 64) (entryFor s (slotOf c));
       position = (s .position % 64 + 1) % 64;
       latest = cycles (stored t);
-      survivors = s .survivors % 4294967296 + 1;
+      survivors = oneMore (s .survivors);
       depth = min 64 (s .depth + 1);
       number = s .number;
-      records = s .records;
+      records = oneMore (s .records);
       rounded = s .rounded;
       opening = s .opening;
       «is_open» = s .«is_open»;
@@ -124,7 +128,7 @@ poppedState s =
       survivors = s .survivors - 1;
       depth = s .depth - 1;
       number = s .number;
-      records = s .records;
+      records = oneMore (s .records);
       rounded = s .rounded;
       opening = s .opening;
       «is_open» = s .«is_open»;

@@ -28,12 +28,13 @@ pub struct Session {
     pub latest: ControllerCycles,
     pub survivors: u64,
     pub depth: u64,
-    // The record number of the opening, and the records in the journal.
-    pub number: u64,
+    // The records in the journal.
     pub records: u64,
     // The twenty gaps in controller cycles, rounded once at the opening.
     pub rounded: [ControllerCycles; 20],
     pub opening: Opening,
+    // The record number of the opening.
+    pub number: u32,
     // 0: no session open.
     pub is_open: u8,
 }
@@ -55,7 +56,6 @@ impl Session {
             latest: ControllerCycles(0),
             survivors: 0,
             depth: 0,
-            number: 0,
             records: 0,
             rounded: [ControllerCycles(0); 20],
             opening: Opening {
@@ -64,6 +64,7 @@ impl Session {
                 mode: 0,
                 client: 0,
             },
+            number: 0,
             is_open: 0,
         }
     }

@@ -28,9 +28,12 @@ one-less-requires c κs = search needs
 one-less-requires-2 : tie.Need-one-less-requires-2
 one-less-requires-2 c κs = search needs
 
+one-more-requires : tie.Need-one-more-requires
+one-more-requires c κs = search needs
+
 returns : tie.Need-returns
 unfolding poppedState
-returns c = rw (c .before .before .before .unshifted .ensures, c .before .one-less .ensures, c .one-less2 .ensures)
+returns c = rw (c .before .before .before .before .unshifted .ensures, c .before .before .one-less .ensures, c .before .one-less2 .ensures, c .one-more .ensures)
 
 pub pop-spec : {M : Type 1} → statement M
 pop-spec =
@@ -44,4 +47,5 @@ pop-spec =
     unshifted-requires
     one-less-requires
     one-less-requires-2
+    one-more-requires
     returns)

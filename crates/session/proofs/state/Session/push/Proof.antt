@@ -37,15 +37,18 @@ shifted-requires c κs = search needs
 add-self : tie.Need-add-self
 add-self c = search needs
 
-add-self-2 : tie.Need-add-self-2
-add-self-2 c = search needs
+one-more-requires : tie.Need-one-more-requires
+one-more-requires c κs = search needs
 
 deeper-requires : tie.Need-deeper-requires
 deeper-requires c κs = search needs
 
+one-more-requires-2 : tie.Need-one-more-requires-2
+one-more-requires-2 c κs = search needs
+
 returns : tie.Need-returns
 unfolding pushedState
-returns c = rw (c .deeper .ensures, c .before .shifted .ensures, c .before .before .before .fourth .ensures, c .before .before .before .before .before .before .store-stamp .ensures, c .before .before .before .before .before .before .before .slot-of .ensures .0)
+returns c = rw (c .one-more2 .ensures, c .before .deeper .ensures, c .before .before .one-more .ensures, c .before .before .before .shifted .ensures, c .before .before .before .before .before .fourth .ensures, c .before .before .before .before .before .before .before .before .store-stamp .ensures, c .before .before .before .before .before .before .before .before .before .slot-of .ensures .0)
 
 pub push-spec : {M : Type 1} → statement M
 push-spec =
@@ -62,6 +65,7 @@ push-spec =
     element-set-from-stamp
     shifted-requires
     add-self
-    add-self-2
+    one-more-requires
     deeper-requires
+    one-more-requires-2
     returns)

@@ -1,0 +1,3 @@
+// The calls of document 01 over a lent journal.
+pub mod answers;
+pub mod judge;
