@@ -2,8 +2,7 @@
 ghost use mathlib.Core.Path.{_≡_};
 ghost use mathlib.Core.Bool.{false};
 ghost use Prim.Native.Nat.{_<_};
-ghost use lib.Dec.{T};
-ghost use Rattle.timing.specs.Rules.{agrees};
+ghost use Rattle.timing.specs.Table.{gapTable};
 ghost use Rattle.history.specs.Answers.{badBank, goodRatio, goodRanks, goodMode, goodOpening};
 ghost use Rattle.checker.specs.Replies.{offerReplied};
 ghost use Rattle.checker.specs.Exact.{judgedReply};
@@ -85,7 +84,7 @@ pub fn judge(
     bank: u64,
     cycle: ControllerCycles,
 ) -> OfferAnswer
-    requires { ⌜ T (agrees (now table)) ⌝ }
+    requires { ⌜ now table ≡ gapTable ⌝ }
     ensures { λ r. ⌜ offerReplied r ≡ judgedReply last activates rounded (latest .0) opening (record { kind = kind; rank = rank; bank = bank }) (cycle .0) ⌝ }
 {
     if opening.ranks as u64 <= rank {

@@ -2,9 +2,8 @@
 // latest ask, the lowest gap first, is a maximum.
 ghost use mathlib.Core.Path.{_≡_};
 ghost use Prim.Native.Nat.{ℕ, _+_, _*_, _≤_, _<_, max};
-ghost use lib.Dec.{T};
 ghost use lib.ListN.{getD};
-ghost use Rattle.timing.specs.Rules.{agrees};
+ghost use Rattle.timing.specs.Table.{gapTable};
 ghost use Rattle.session.specs.State.{roundedGaps};
 ghost use Rattle.session.specs.Scan.{stepOf, stepFor, stepsTo, askOf, scanTo, fourOf, largestAsk, unpacked, askIn};
 use crate::stamps::read_stamp;
@@ -59,7 +58,7 @@ fn step_for(
     second: CommandKind,
     near: usize,
 ) -> u64
-    requires { ⌜ T (agrees (now table)) ⌝ }
+    requires { ⌜ now table ≡ gapTable ⌝ }
     requires { ⌜ near < 3 ⌝ }
     ensures { λ r. ⌜ (r ≡ stepFor opening rounded first second near) × (r < 2097152) ⌝ }
 {
@@ -74,7 +73,7 @@ fn steps(
     rounded: [ControllerCycles; 20],
     second: CommandKind,
 ) -> [u64; 21]
-    requires { ⌜ T (agrees (now table)) ⌝ }
+    requires { ⌜ now table ≡ gapTable ⌝ }
     ensures { λ r. ⌜ (r ≡ stepsTo opening rounded second) × ((i : ℕ) → getD r i 0 < 2097152) ⌝ }
 {
     let mut found = [0u64; 21];
@@ -157,7 +156,7 @@ pub fn earliest_of(
     opening: Opening,
     command: Command,
 ) -> Earliest
-    requires { ⌜ T (agrees (now table)) ⌝ }
+    requires { ⌜ now table ≡ gapTable ⌝ }
     ensures { λ r. ⌜ askIn r ≡ unpacked (largestAsk last activates rounded (latest .0) opening command) ⌝ }
 {
     let kind = command.kind;

@@ -1,4 +1,4 @@
--- A table that passes the test `agrees` holds the list's rule at each entry, and no second rule of the list holds there.
+-- The table agrees with the list of rules at every entry, and at most one rule of the list holds there.
 use mathlib.Core.Path.{_≡_, refl, sym, _∙_, ap, subst}
 use mathlib.Core.Logic.{⊎-elim}
 use mathlib.Core.Bool.{Bool, true, false, cond, _&&_, _||_}
@@ -12,7 +12,8 @@ use borrow.Author.Tests.{lt-ltb}
 use Rattle.timing.specs.declared.kinds.CommandKind.{CommandKind}
 use Rattle.timing.specs.declared.rules.Opening.{Opening}
 use Rattle.timing.specs.Kinds.{codeOf, allBanks}
-use Rattle.timing.specs.Rules.{classFor, rules, matching, matchingAt, inMode, kindAt, ruleGap, firstOr0, tableGap, tablePlace, alone, alonePlaces, agrees, holds, Rule}
+use Rattle.timing.specs.Rules.{classFor, rules, matching, kindAt, ruleGap, firstOr0, tableGap, holds, Rule, covers}
+use Rattle.timing.specs.Table.{gapTable, matchingAt, inMode, tablePlace, alone, alonePlaces, agrees}
 use Rattle.timing.proofs.KindLaws.{code-low, code-high, kind-at-code}
 
 pub and-left : (a b : Bool) → T (a && b) → T a
@@ -78,29 +79,40 @@ decoded : (p m class : ℕ) (a b : CommandKind) → 0 + p ≡ p → p / 147 ≡ 
     → matchingAt (0 + p) ≡ matching (inMode m) class a b rules
 decoded p m class a b e em ec ea eb = rw (e, em, ec, ea, eb)
 
-module _ (t : List ℕ) (agreed : T (agrees t)) (o : Opening) (class : ℕ) (a b : CommandKind) (hm : o .mode < 2) (hc : class < 3) where
-  -- where the table passes the test, the rules that hold at an entry are the entry's alone
-  pub matching-only : matching o class a b rules ≡ only (getD t (tablePlace o class a b) 0)
+-- one test, computed over all 294 entries
+pub table-agrees : T (agrees gapTable)
+unfolding rules covers matching gapTable alonePlaces agrees
+table-agrees = tt
+
+module _ (o : Opening) (class : ℕ) (a b : CommandKind) (hm : o .mode < 2) (hc : class < 3) where
+  -- the rules that hold at an entry are the entry's alone
+  entry-alone : matching o class a b rules ≡ only (getD gapTable (tablePlace o class a b) 0)
   unfolding agrees
-  matching-only =
+  entry-alone =
       let m = o .mode in
       let x = codeOf a - 1 in
       let y = codeOf b - 1 in
       let p = tablePlace o class a b in
       let hx = code-place a in
       let hy = code-place b in
-      let size : length t ≡ 294 = eqb→eq (length t) 294 (and-left (eqb (length t) 294) (alonePlaces 0 t) agreed) in
-      let low : p < length t = subst (λ (n : ℕ). p < n) (sym size) (place-low m class x y hm hc hx hy) in
-      let found = alone-only (getD t p 0) (matchingAt (0 + p)) (alone-at t 0 (and-right (eqb (length t) 294) (alonePlaces 0 t) agreed) p low) in
+      let parts = table-agrees in
+      let size : length gapTable ≡ 294 = eqb→eq (length gapTable) 294 (and-left (eqb (length gapTable) 294) (alonePlaces 0 gapTable) parts) in
+      let low : p < length gapTable = subst (λ (n : ℕ). p < n) (sym size) (place-low m class x y hm hc hx hy) in
+      let found =
+      alone-only (getD gapTable p 0) (matchingAt (0 + p)) (alone-at gapTable 0 (and-right (eqb (length gapTable) 294) (alonePlaces 0 gapTable) parts) p low) in
       sym (mode-only o class a b rules)
       ∙ sym (decoded p m class a b (zero-add p) (place-mode m class x y hm hc hx hy) (place-class m class x y hm hc hx hy)
       (ap kindAt (place-first m class x y hm hc hx hy) ∙ kind-at-code a) (ap kindAt (place-second m class x y hm hc hx hy) ∙ kind-at-code b))
       ∙ found
 
-  -- the table's entry
-  pub table-entry : getD t (tablePlace o class a b) 0 ≡ tableGap o class a b
+  -- the table's entry is the rule's number
+  pub table-entry : getD gapTable (tablePlace o class a b) 0 ≡ tableGap o class a b
   unfolding tableGap ruleGap
-  table-entry = rw (lt-ltb (o .mode) 2 hm, matching-only) (sym (first-only (getD t (tablePlace o class a b) 0)))
+  table-entry = rw (lt-ltb (o .mode) 2 hm, entry-alone) (sym (first-only (getD gapTable (tablePlace o class a b) 0)))
+
+  -- at most one rule of the list holds: the one that the table names
+  pub one-rule : matching o class a b rules ≡ only (tableGap o class a b)
+  one-rule = entry-alone ∙ ap only table-entry
 
 -- the rules' numbers are 1 to 19
 pub numbered : List Rule → Bool

@@ -1,4 +1,5 @@
 pub mod Kinds
 pub mod Clocks
 pub mod Rules
+pub mod Table
 pub mod Earliest

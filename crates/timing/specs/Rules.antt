@@ -1,4 +1,4 @@
--- The twenty gaps' rules 1 to 19 as a list, and the table's test of agreement with that list.
+-- Groups, classes, modes, and the rules 1 to 19 as a list.
 use mathlib.Core.Bool.{Bool, true, false, cond, _&&_, _||_}
 use mathlib.Core.List.{List, [], _∷_}
 use Prim.Native.Nat.{ℕ, suc, _+_, _-_, _*_, _/_, _%_}
@@ -109,33 +109,7 @@ ruleGap o class a b = firstOr0 (matching o class a b rules)
 unfoldable pub tableGap : Opening → ℕ → CommandKind → CommandKind → ℕ
 tableGap o class a b = cond (ltb (o .mode) modeCount) (ruleGap o class a b) 0
 
--- the table: one number for each mode, class, first and second kind, in this order
-abbrev pub tableLength : ℕ
-tableLength = 294
-
-abbrev pub tablePlace : Opening → ℕ → CommandKind → CommandKind → ℕ
-tablePlace o class a b = ((o .mode * 3 + class) * 7 + (codeOf a - 1)) * 7 + (codeOf b - 1)
-
+-- the kinds by their places in a row or a column of the table
 abbrev pub kindAt : ℕ → CommandKind
 kindAt i =
     cond (eqb i 1) Rd (cond (eqb i 2) Wr (cond (eqb i 3) Prepb (cond (eqb i 4) Preab (cond (eqb i 5) Refab (cond (eqb i 6) Refpb Act)))))
-
-abbrev pub inMode : ℕ → Opening
-inMode m = record { ratio = 1; ranks = 1; mode = m; client = 0 }
-
-abbrev pub matchingAt : ℕ → List ℕ
-matchingAt i = matching (inMode (i / 147)) (i / 49 % 3) (kindAt (i / 7 % 7)) (kindAt (i % 7)) rules
-
--- 0 stands where no rule holds, and a number where that rule holds and no other
-abbrev pub alone : ℕ → List ℕ → Bool
-alone n [] = eqb n 0
-alone n (m ∷ []) = eqb n m && ltb 0 m
-alone n (m ∷ k ∷ ms) = false
-
-unfoldable pub alonePlaces : ℕ → List ℕ → Bool
-alonePlaces i [] = true
-alonePlaces i (n ∷ ns) = alone n (matchingAt i) && alonePlaces (suc i) ns
-
--- the test of agreement with the list, at every entry
-unfoldable pub agrees : List ℕ → Bool
-agrees table = eqb (length table) tableLength && alonePlaces 0 table

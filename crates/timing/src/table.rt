@@ -1,9 +1,9 @@
 // The rules 1 to 19 as one constant table of 294 gap numbers.
 ghost use mathlib.Core.Path.{_≡_};
 ghost use Prim.Native.Nat.{_<_, _-_};
-ghost use lib.Dec.{T};
 ghost use Rattle.timing.specs.Kinds.{codeOf};
-ghost use Rattle.timing.specs.Rules.{agrees, kindAt, tableGap};
+ghost use Rattle.timing.specs.Rules.{kindAt, tableGap};
+ghost use Rattle.timing.specs.Table.{gapTable};
 use crate::kinds::CommandKind;
 use crate::rules::Opening;
 
@@ -307,7 +307,7 @@ const TABLE: [u8; 294] = [
 
 // The constant table. A caller that looks up often takes it once: naming a constant array makes it anew each time.
 pub fn table() -> [u8; 294]
-    ensures { λ r. ⌜ T (agrees r) ⌝ }
+    ensures { λ r. ⌜ r ≡ gapTable ⌝ }
 {
     TABLE
 }
@@ -348,7 +348,7 @@ pub fn gap_number(
     first: CommandKind,
     second: CommandKind,
 ) -> usize
-    requires { ⌜ T (agrees (now table)) ⌝ }
+    requires { ⌜ now table ≡ gapTable ⌝ }
     requires { ⌜ class < 3 ⌝ }
     ensures { λ r. ⌜ r ≡ tableGap opening class first second ⌝ }
 {

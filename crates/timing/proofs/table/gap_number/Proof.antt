@@ -51,8 +51,8 @@ returns-2 c =
     let s = c .before .before .before .before .before .before in
     let mode-known : s .args .opening .mode < 2 = omega (arith, c .before .before .before .before .if1 .left) in
     c .wide .ensures
-    ∙ rw (c .before .before .before .place-of .ensures .0, c .before .before .place-of2 .ensures .0)
-    (table-entry (s .args .table .now) (s .pre .0) (s .args .opening) (s .args .class) (s .args .first) (s .args .second) mode-known (s .pre .1))
+    ∙ rw (c .before .before .before .place-of .ensures .0, c .before .before .place-of2 .ensures .0, s .pre .0)
+    (table-entry (s .args .opening) (s .args .class) (s .args .first) (s .args .second) mode-known (s .pre .1))
 
 pub gap-number-spec : {M : Type 1} → statement M
 gap-number-spec =
