@@ -1,3 +1,4 @@
 pub mod Stamps
 pub mod State
 pub mod Scan
+pub mod Rep
