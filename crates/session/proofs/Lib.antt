@@ -1,2 +1,3 @@
 pub mod Fill
 pub mod RepLaws
+pub mod ScanLaws

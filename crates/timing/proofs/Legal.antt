@@ -16,21 +16,21 @@ use Rattle.timing.specs.Kinds.{sameKind}
 use Rattle.timing.specs.Rules.{Rule, rules, classOf, holds, binds, matching}
 use Rattle.timing.specs.Earliest.{Stamped, Standing, Ask, ByPair, ByFour, NthAct, newest, behind-act, behind-other, AsksFor, LaterThanLast, Legal, NamedGap, tFAW, reach, cycleAfter, floor, isAct, asked, pairAsks, acts, fourthAct, fourAsks, asks, later, latest, earliest}
 use Rattle.timing.proofs.AskLaws.{_≼_, ask-path, latest-above-first, latest-above, latest-one}
-use Rattle.timing.proofs.TableLaws.{and-left, and-right, numbers-above, all-numbered}
+use Rattle.timing.proofs.TableLaws.{and-left, and-right, numbers-within, all-numbered}
 
-both : (a b : Bool) → T a → T b → T (a && b)
+pub both : (a b : Bool) → T a → T b → T (a && b)
 both true b t u = u
 both false b t u = t
 
-true-is : (b : Bool) → T b → b ≡ true
+pub true-is : (b : Bool) → T b → b ≡ true
 true-is true t = refl
 true-is false t = absurd t
 
-false-is : (b : Bool) → (T b → ⊥) → b ≡ false
+pub false-is : (b : Bool) → (T b → ⊥) → b ≡ false
 false-is true n = absurd (n tt)
 false-is false n = refl
 
-is-true : (b : Bool) → b ≡ true → T b
+pub is-true : (b : Bool) → b ≡ true → T b
 is-true b e = subst T (sym e) tt
 
 -- membership in a mapped list
@@ -46,7 +46,7 @@ map-out f (y ∷ ys) {b} m =
 
 -- a number matches exactly if a rule of the list with that number holds
 module _ (o : Opening) (class : ℕ) (a b : CommandKind) where
-  matching-in : (rs : List Rule) {r : Rule} → List·Memᴰ r rs → T (holds o class a b r) → List·Memᴰ (r .number) (matching o class a b rs)
+  pub matching-in : (rs : List Rule) {r : Rule} → List·Memᴰ r rs → T (holds o class a b r) → List·Memᴰ (r .number) (matching o class a b rs)
   unfolding matching
   matching-in [] m h = absurd (List·Memᴰ·not-nil m)
   matching-in (q ∷ qs) {r} m h =
@@ -59,11 +59,11 @@ module _ (o : Opening) (class : ℕ) (a b : CommandKind) where
       keep true m = List·Memᴰ·tail m
       keep false m = m
 
-  Matched : List Rule → ℕ → Type 0
+  abbrev pub Matched : List Rule → ℕ → Type 0
   Matched rs n = (r : Rule) × List·Memᴰ r rs × T (holds o class a b r) × (r .number ≡ n)
 
-  matching-out : (rs : List Rule) {n : ℕ} → List·Memᴰ n (matching o class a b rs) → Matched rs n
-  unfolding matching Matched
+  pub matching-out : (rs : List Rule) {n : ℕ} → List·Memᴰ n (matching o class a b rs) → Matched rs n
+  unfolding matching
   matching-out [] m = absurd (List·Memᴰ·not-nil m)
   matching-out (q ∷ qs) {n} m = go (holds o class a b q) refl m (λ (m′ : List·Memᴰ n (matching o class a b qs)). matching-out qs m′)
     where
@@ -98,7 +98,7 @@ module _ (st : Standing) (c : Command) where
       (map-in (asked st x) (matching o class (x .command .kind) (c .kind) rules) (matching-in o class (x .command .kind) (c .kind) rules m (and-right same rest h)))
 
   here-out : (x : Stamped) {a : Ask} → List·Memᴰ a (here x) → Bound x a
-  unfolding Bound Matched
+  unfolding Bound
   here-out x {a} m = go (eqb (x .command .rank) (c .rank)) refl m
     where
       o : Opening
@@ -138,7 +138,7 @@ module _ (st : Standing) (c : Command) where
       (λ (m′ : List·Memᴰ a (pairAsks st c ys)). let w = pairs-out ys m′ in (w .0, List·Memᴰ·tail (w .1), w .2)) (List·Memᴰ·append-cases (here y) m)
 
 -- the n-th ACT, as it is counted and as it is computed
-nth-in : (rank n : ℕ) (xs : List Stamped) {x : Stamped} → NthAct rank x n xs → (m : ℕ) × (n ≡ suc m) × List·Memᴰ x (take 1 (drop m (acts rank xs)))
+pub nth-in : (rank n : ℕ) (xs : List Stamped) {x : Stamped} → NthAct rank x n xs → (m : ℕ) × (n ≡ suc m) × List·Memᴰ x (take 1 (drop m (acts rank xs)))
 unfolding acts
 nth-in rank n xs {x} (newest {y = y} {ys = ys} h e) =
     (0, refl, subst (λ (t : Bool). List·Memᴰ x (take 1 (drop 0 (cond t (y ∷ acts rank ys) (acts rank ys))))) (sym (true-is (isAct rank y) h)) (List·Memᴰ·head e))
@@ -149,7 +149,7 @@ nth-in rank n xs {x} (behind-other {y = y} {ys = ys} h p) =
     let w = nth-in rank n ys p in
     (w .0, w .1, subst (λ (t : Bool). List·Memᴰ x (take 1 (drop (w .0) (cond t (y ∷ acts rank ys) (acts rank ys))))) (sym (false-is (isAct rank y) h)) (w .2))
 
-nth-out : (rank : ℕ) (xs : List Stamped) (n : ℕ) {x : Stamped} → List·Memᴰ x (take 1 (drop n (acts rank xs))) → NthAct rank x (suc n) xs
+pub nth-out : (rank : ℕ) (xs : List Stamped) (n : ℕ) {x : Stamped} → List·Memᴰ x (take 1 (drop n (acts rank xs))) → NthAct rank x (suc n) xs
 unfolding acts
 nth-out rank [] zero m = absurd (List·Memᴰ·not-nil m)
 nth-out rank [] (suc n) m = absurd (List·Memᴰ·not-nil m)
@@ -210,8 +210,10 @@ module _ (st : Standing) (c : Command) where
           let b = w .2 in
           record { survivor = w .0; survives = w .1; rule = b .0; listed = b .1; bound = b .2; number = b .3; asks = b .4 }
 
-  asks-numbered : {n u : ℕ} → AsksFor st c n u → 0 < n
-  asks-numbered (inl p) = subst (λ (m : ℕ). 0 < m) (p .number) (numbers-above rules all-numbered (p .listed))
+  -- the gaps that ask are 1 to 20
+  pub asks-numbered : {n u : ℕ} → AsksFor st c n u → (0 < n) × (n ≤ 20)
+  asks-numbered (inl p) =
+      let w = subst (λ (m : ℕ). (0 < m) × (m < 20)) (p .number) (numbers-within rules all-numbered (p .listed)) in (w .0, omega arith)
   asks-numbered (inr p) = omega (arith, p .number)
 
   abbrev start : Ask
@@ -260,7 +262,7 @@ module _ (st : Standing) (c : Command) where
       none : a .gap ≡ 0 → (n u : ℕ) → AsksFor st c n u → u ≤ floor st
       none e n u p =
           ⊎-elim (λ (q : a ≡ start). omega (arith, above p .cycle, ap (λ (k : Ask). k .cycle) q))
-          (λ (m : List·Memᴰ a (asks st c)). absurd (let z : 0 < a .gap = asks-numbered (asks-out m) in omega arith)) (latest-one start (asks st c))
+          (λ (m : List·Memᴰ a (asks st c)). absurd (let z : 0 < a .gap = asks-numbered (asks-out m) .0 in omega arith)) (latest-one start (asks st c))
 
       zero-gap : ((n u : ℕ) → AsksFor st c n u → u ≤ floor st) → a .gap ≡ 0
       zero-gap h =

@@ -1,5 +1,6 @@
 pub mod AskLaws
 pub mod KindLaws
 pub mod Legal
+pub mod Lookup
 pub mod Rounding
 pub mod TableLaws

@@ -134,11 +134,11 @@ module _ (r : Rule) (rs : List Rule) (t : T (numbered (r ∷ rs))) where
   unfolding numbered
   numbered-tail = and-right (ltb 0 (r .number) && ltb (r .number) 20) (numbered rs) t
 
-pub numbers-above : (rs : List Rule) → T (numbered rs) → {r : Rule} → List·Memᴰ r rs → 0 < r .number
-numbers-above [] t m = absurd (List·Memᴰ·not-nil m)
-numbers-above (q ∷ qs) t {r} m =
-    ⊎-elim (λ (e : r ≡ q). subst (λ (x : Rule). 0 < x .number) (sym e) (numbered-head q qs t .0))
-    (λ (m′ : List·Memᴰ r qs). numbers-above qs (numbered-tail q qs t) m′) (List·Memᴰ·cases-cons m)
+pub numbers-within : (rs : List Rule) → T (numbered rs) → {r : Rule} → List·Memᴰ r rs → (0 < r .number) × (r .number < 20)
+numbers-within [] t m = absurd (List·Memᴰ·not-nil m)
+numbers-within (q ∷ qs) t {r} m =
+    ⊎-elim (λ (e : r ≡ q). subst (λ (x : Rule). (0 < x .number) × (x .number < 20)) (sym e) (numbered-head q qs t))
+    (λ (m′ : List·Memᴰ r qs). numbers-within qs (numbered-tail q qs t) m′) (List·Memᴰ·cases-cons m)
 
 module _ (o : Opening) (class : ℕ) (a b : CommandKind) where
   first-low : (rs : List Rule) → T (numbered rs) → firstOr0 (matching o class a b rs) < 20
