@@ -1,4 +1,5 @@
 -- Document 01's number, and what stands beside it, for each case of each answer.
+use mathlib.Core.Bool.{Bool, true, false}
 use Prim.Native.Nat.{ℕ}
 use Rattle.history.specs.Answers.{Reply, plain, named, Status}
 use Rattle.session.specs.Scan.{askIn}
@@ -30,6 +31,18 @@ offerReplied offer-case.PastLastCycle = plain 5
 offerReplied offer-case.NotLater = plain 6
 offerReplied (offer-case.TooEarly e) = named 7 (askIn e)
 offerReplied offer-case.NoRoom = plain 9
+
+-- lines 3 to 7 passed
+abbrev pub passes : OfferAnswer → Bool
+passes (offer-case.Accepted cycle) = true
+passes offer-case.NoSession = false
+passes offer-case.BadKind = false
+passes offer-case.BadRank = false
+passes offer-case.BadBank = false
+passes offer-case.PastLastCycle = false
+passes offer-case.NotLater = false
+passes (offer-case.TooEarly e) = false
+passes offer-case.NoRoom = false
 
 abbrev pub earliestReplied : EarliestAnswer → Reply
 earliestReplied (earliest-case.Found e) = named 0 (askIn e)

@@ -4,7 +4,7 @@ ghost use mathlib.Core.Bool.{false};
 ghost use Prim.Native.Nat.{_<_};
 ghost use Rattle.timing.specs.Table.{gapTable};
 ghost use Rattle.history.specs.Answers.{badBank, goodRatio, goodRanks, goodMode, goodOpening};
-ghost use Rattle.checker.specs.Replies.{offerReplied};
+ghost use Rattle.checker.specs.Replies.{offerReplied, passes};
 ghost use Rattle.checker.specs.Exact.{judgedReply};
 use crate::answers::OfferAnswer;
 use session::scan::earliest_of;
@@ -109,4 +109,21 @@ pub fn judge(
         return OfferAnswer::TooEarly(early);
     }
     OfferAnswer::Accepted(cycle)
+}
+
+// Whether a command passed lines 3 to 7.
+pub fn passed(answer: OfferAnswer) -> bool
+    ensures { λ r. ⌜ r ≡ passes answer ⌝ }
+{
+    match answer {
+        OfferAnswer::Accepted(_) => true,
+        OfferAnswer::NoSession => false,
+        OfferAnswer::BadKind => false,
+        OfferAnswer::BadRank => false,
+        OfferAnswer::BadBank => false,
+        OfferAnswer::PastLastCycle => false,
+        OfferAnswer::NotLater => false,
+        OfferAnswer::TooEarly(_) => false,
+        OfferAnswer::NoRoom => false,
+    }
 }

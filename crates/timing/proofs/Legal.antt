@@ -16,22 +16,8 @@ use Rattle.timing.specs.Kinds.{sameKind}
 use Rattle.timing.specs.Rules.{Rule, rules, classOf, holds, binds, matching}
 use Rattle.timing.specs.Earliest.{Stamped, Standing, Ask, ByPair, ByFour, NthAct, newest, behind-act, behind-other, AsksFor, LaterThanLast, Legal, NamedGap, tFAW, reach, cycleAfter, floor, isAct, asked, pairAsks, acts, fourthAct, fourAsks, asks, later, latest, earliest}
 use Rattle.timing.proofs.AskLaws.{_≼_, ask-path, latest-above-first, latest-above, latest-one}
-use Rattle.timing.proofs.TableLaws.{and-left, and-right, numbers-within, all-numbered}
-
-pub both : (a b : Bool) → T a → T b → T (a && b)
-both true b t u = u
-both false b t u = t
-
-pub true-is : (b : Bool) → T b → b ≡ true
-true-is true t = refl
-true-is false t = absurd t
-
-pub false-is : (b : Bool) → (T b → ⊥) → b ≡ false
-false-is true n = absurd (n tt)
-false-is false n = refl
-
-pub is-true : (b : Bool) → b ≡ true → T b
-is-true b e = subst T (sym e) tt
+use Rattle.timing.proofs.TableLaws.{numbers-within, all-numbered}
+use Rattle.timing.proofs.Truth.{and-left, and-right, both, true-is, false-is, is-true}
 
 -- membership in a mapped list
 map-in {ℓ κ} : {A : Type ℓ} {B : Type κ} (f : A → B) (xs : List A) {x : A} → List·Memᴰ x xs → List·Memᴰ (f x) (map f xs)

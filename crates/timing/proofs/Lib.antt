@@ -4,3 +4,4 @@ pub mod Legal
 pub mod Lookup
 pub mod Rounding
 pub mod TableLaws
+pub mod Truth

@@ -11,8 +11,9 @@ use Rattle.timing.specs.declared.rules.Opening.{Opening}
 use Rattle.timing.specs.declared.rules.Command.{Command}
 use Rattle.timing.specs.Rules.{rules, groupOf, nearness, classOf, holds, matching, tableGap}
 use Rattle.timing.specs.Earliest.{Stamped, Standing, ByPair, AsksFor, reach}
-use Rattle.timing.proofs.TableLaws.{and-left, and-right, only, one-rule, class-low}
-use Rattle.timing.proofs.Legal.{both, is-true, matching-in, matching-out}
+use Rattle.timing.proofs.TableLaws.{only, one-rule, class-low}
+use Rattle.timing.proofs.Truth.{and-left, and-right, both, is-true}
+use Rattle.timing.proofs.Legal.{matching-in, matching-out}
 
 pub near-low : (o : Opening) (a b : ℕ) → nearness o a b < 3
 near-low o a b = go (eqb a b) (eqb (groupOf o a) (groupOf o b))

@@ -14,15 +14,8 @@ use Rattle.timing.specs.declared.rules.Opening.{Opening}
 use Rattle.timing.specs.Kinds.{codeOf, allBanks}
 use Rattle.timing.specs.Rules.{classFor, rules, matching, kindAt, ruleGap, firstOr0, tableGap, holds, Rule, covers}
 use Rattle.timing.specs.Table.{gapTable, matchingAt, inMode, tablePlace, alone, alonePlaces, agrees}
+use Rattle.timing.proofs.Truth.{and-left, and-right}
 use Rattle.timing.proofs.KindLaws.{code-low, code-high, kind-at-code}
-
-pub and-left : (a b : Bool) → T (a && b) → T a
-and-left true b t = tt
-and-left false b t = t
-
-pub and-right : (a b : Bool) → T (a && b) → T b
-and-right true b t = t
-and-right false b t = absurd t
 
 -- the list with this number alone, or nothing for 0
 abbrev pub only : ℕ → List ℕ
