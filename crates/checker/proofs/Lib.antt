@@ -1,3 +1,4 @@
 pub mod CallLaws
 pub mod JudgeLaws
+pub mod RestoreLaws
 pub mod TakeLaws

@@ -2,4 +2,5 @@
 pub mod answers;
 pub mod calls;
 pub mod judge;
+pub mod restore;
 pub mod take;
