@@ -1,0 +1,73 @@
+-- Laws of a line under way, and of decimal digits.
+use mathlib.Core.Path.{_≡_, refl, sym, _∙_, ap, subst}
+use mathlib.Core.Bool.{cond}
+use mathlib.Core.List.{List, [], _∷_, _++_, append-assoc, append-nil}
+use Prim.Native.Nat.{ℕ, zero, suc, _+_, _*_, _-_, _/_, _%_, _^_, _≤_, _<_}
+use native.Mathlib.Nat.{pow-suc, div-lt-iff-lt-mul}
+use native.Mathlib.Numerals.{add-one}
+use native.Mathlib.Omega.{arith}
+use lib.Dec.{ltb}
+use lib.ListN.{length, take, drop, set, getD, length-append, length-set, drop-of-length-le}
+use lib.Seq.{take-suc, take-suc-set, drop-cons, drop-set-lt, getD-set-same}
+use borrow.Author.Tests.{le-ltb, lt-ltb}
+use Rattle.text.specs.declared.lines.Line.{Line}
+use Rattle.text.specs.Text.{digits}
+use Rattle.text.specs.Lines.{lineSize, shown, Appended}
+
+-- one byte stored behind what is shown
+pub put-shown : (bytes : List ℕ) (at b : ℕ) → length bytes ≡ 128 → at < 128 → take (at + 1) (set bytes at b) ≡ take at bytes ++ (b ∷ [])
+put-shown bytes at b size low = rw add-one (take-suc-set bytes at b (omega arith))
+
+-- nothing appended, and one word after another
+pub appended-none : (l : Line) → Appended l [] l
+appended-none l = λ fits. (omega arith, sym (append-nil (shown l)))
+
+pub appended-on : (l m r : Line) (xs ys : List ℕ) → Appended l xs m → Appended m ys r → Appended l (xs ++ ys) r
+appended-on l m r xs ys p q fits =
+    let size = length-append xs ys in
+    let first = p (omega arith) in
+    let second = q (omega arith) in
+    (omega arith, second .1 ∙ rw (first .1) (append-assoc (shown l) xs ys))
+
+-- a word is appended byte by byte
+pub appended-more : (l m r : Line) (w : List ℕ) (i : ℕ) → i < length w → Appended l (take i w) m → Appended m (getD w i 0 ∷ []) r → Appended l (take (i + 1) w) r
+appended-more l m r w i low p q = rw (add-one, take-suc w i 0 low) (appended-on l m r (take i w) (getD w i 0 ∷ []) p q)
+
+-- digits stand from place at + 1 on; n is what is left of the number
+abbrev pub Digits : ℕ → List ℕ → ℕ → ℕ → Type 0
+Digits number ds at n = (at ≤ 19) × (length ds ≡ 20) × (n < 10 ^ suc at) × (digits 20 number ≡ digits (suc at) n ++ drop (suc at) ds)
+
+pub digits-start : (number : ℕ) (ds : List ℕ) → length ds ≡ 20 → number < 2 ^ 64 → Digits number ds 19 number
+digits-start number ds size low = (omega arith, size, omega arith, rw (drop-of-length-le ds {i = 20} (omega arith)) (sym (append-nil (digits 20 number))))
+
+-- storing at a place, read from there
+drop-stored : (ds : List ℕ) (at v : ℕ) → at < length ds → drop at (set ds at v) ≡ v ∷ drop (suc at) ds
+drop-stored ds at v low =
+    drop-cons (set ds at v) at 0 (rw (length-set ds at v) low) ∙ rw (getD-set-same ds at v 0 low, drop-set-lt (suc at) ds at v (omega arith))
+
+tenth : (n k : ℕ) → n < 10 ^ suc k → n / 10 < 10 ^ k
+tenth n k low = div-lt-iff-lt-mul {k = 10} {x = n} {y = 10 ^ k} (omega arith) .1 (rw pow-suc at low)
+
+pub digits-more : (number : ℕ) (ds : List ℕ) (at n : ℕ) → 10 ≤ n → Digits number ds at n → Digits number (set ds at (48 + n % 10)) (at - 1) (n / 10)
+unfolding digits
+digits-more number ds zero n more d = absurd (omega (arith, d .2))
+digits-more number ds (suc k) n more d =
+    let low : suc k < length ds = omega (arith, d .0, d .1) in
+    let one : suc k - 1 ≡ k = omega arith in
+    rw one (
+      omega (arith, d .0),
+      length-set ds (suc k) (48 + n % 10) ∙ d .1,
+      tenth n (suc k) (d .2),
+      d .3 ∙ rw (le-ltb n 10 more, drop-stored ds (suc k) (48 + n % 10) low) (append-assoc (digits (suc k) (n / 10)) ((48 + n % 10) ∷ []) (drop (suc (suc k)) ds)),
+    )
+
+pub digits-last : (number : ℕ) (ds : List ℕ) (at n : ℕ) → n < 10 → Digits number ds at n → drop at (set ds at (48 + n)) ≡ digits 20 number
+unfolding digits
+digits-last number ds at n less d =
+    let low : at < length ds = omega (arith, d .0, d .1) in
+    let rest : n % 10 ≡ n = omega arith in
+    drop-stored ds at (48 + n) low ∙ sym (d .3 ∙ rw (lt-ltb n 10 less, rest))
+
+pub digits-room : (number : ℕ) (ds : List ℕ) (at n : ℕ) → 10 ≤ n → Digits number ds at n → 1 ≤ at
+digits-room number ds zero n more d = absurd (omega (arith, d .2))
+digits-room number ds (suc k) n more d = omega arith

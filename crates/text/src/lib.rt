@@ -1,0 +1,2 @@
+// Lines of text in a buffer of a fixed size.
+pub mod lines;
