@@ -1,4 +1,6 @@
 pub mod CallLaws
 pub mod JudgeLaws
+pub mod KeepsLaws
+pub mod MeansLaws
 pub mod RestoreLaws
 pub mod TakeLaws

@@ -15,18 +15,18 @@ use Rattle.timing.specs.declared.kinds.MaybeKind.the-variants.{Kind, NoKind}
 use Rattle.timing.specs.declared.rules.Command.{Command}
 use Rattle.timing.specs.Kinds.{kindOf, codeOf}
 use Rattle.timing.specs.Earliest.{Settings, Stamped, Standing}
-use Rattle.history.specs.Records.{Record, opening, command, takeBack, History, Session, closed, session, standing, pushed, popped, deepest}
+use Rattle.history.specs.Records.{Record, opening, command, takeBack, History, Current, closed, session, standing, pushed, popped, deepest}
 use Rattle.timing.proofs.KindLaws.{code-of-kind}
 use Rattle.history.proofs.AnswerLaws.{Shape, refuses, opens, stamps, withdraws, shape}
 use Rattle.history.specs.Answers.{Verdict, refused, accepted, replyOf, nextOf, openOn, offerOn, takeBackOn, plain}
 use Rattle.history.specs.Struck.{Call, open-session, offer, take-back, Answered, unrefused, untaken, sinceOpening, struck, verdict, Told, nothing-yet, then, offerOf, rest}
 
 -- the depth, and the calls of what stands with the n latest commands left out
-abbrev depthOf : Session → ℕ
+abbrev depthOf : Current → ℕ
 depthOf closed = 0
 depthOf (session st) = st .depth
 
-abbrev behind : ℕ → Session → List Call
+abbrev behind : ℕ → Current → List Call
 behind n closed = []
 behind n (session st) = map offerOf (drop n (st .survivors)) ++ open-session (st .settings) ∷ []
 
@@ -55,7 +55,7 @@ module _ (ps : List Answered) (h : History) (left : Left ps h) where
 
   module _ (st : Standing) (stands : standing h ≡ session st) where
     left-on : (n : ℕ) → n ≤ st .depth → sinceOpening (untaken n (unrefused ps)) ≡ behind n (session st)
-    left-on n l = subst (λ (s : Session). n ≤ depthOf s → sinceOpening (untaken n (unrefused ps)) ≡ behind n s) stands (left n) l
+    left-on n l = subst (λ (s : Current). n ≤ depthOf s → sinceOpening (untaken n (unrefused ps)) ≡ behind n s) stands (left n) l
 
     stamped : (kind rank bank t : ℕ) (k : CommandKind) → kindOf kind ≡ Kind k → (n : ℕ) → n ≤ min deepest (st .depth + 1)
         → sinceOpening (untaken n (offer kind rank bank t ∷ unrefused ps)) ≡ behind n (pushed (record { kind = k; rank = rank; bank = bank }) t (session st))
@@ -74,11 +74,11 @@ module _ (ps : List Answered) (h : History) (left : Left ps h) where
   step c v (stamps {kind = kind} {rank = rank} {bank = bank} {t = t} {r = r} e st s k q) n l =
       let cm : Command = record { kind = k; rank = rank; bank = bank } in
       rw (unrefused-yes c (r .number) ps e)
-      (subst (λ (x : Session). n ≤ depthOf (pushed cm t x) → sinceOpening (untaken n (offer kind rank bank t ∷ unrefused ps)) ≡ behind n (pushed cm t x)) (sym s)
+      (subst (λ (x : Current). n ≤ depthOf (pushed cm t x) → sinceOpening (untaken n (offer kind rank bank t ∷ unrefused ps)) ≡ behind n (pushed cm t x)) (sym s)
       (stamped st s kind rank bank t k q n) l)
   step c v (withdraws {r = r} e st s deep) n l =
       rw (unrefused-yes c (r .number) ps e)
-      (subst (λ (x : Session). n ≤ depthOf (popped x) → sinceOpening (untaken n (take-back ∷ unrefused ps)) ≡ behind n (popped x)) (sym s) (withdrawn st s n deep) l)
+      (subst (λ (x : Current). n ≤ depthOf (popped x) → sinceOpening (untaken n (take-back ∷ unrefused ps)) ≡ behind n (popped x)) (sym s) (withdrawn st s n deep) l)
 
 told-left : {ps : List Answered} {h : History} → Told ps h → Left ps h
 unfolding standing unrefused untaken sinceOpening
@@ -90,6 +90,6 @@ pub struck-stands : {ps : List Answered} {h : History} → Told ps h → struck 
 unfolding struck
 struck-stands {ps} {h} told = told-left told 0 (omega arith) ∙ go (standing h)
   where
-    go : (s : Session) → behind 0 s ≡ rest s
+    go : (s : Current) → behind 0 s ≡ rest s
     go closed = refl
     go (session st) = refl
