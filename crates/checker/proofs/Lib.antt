@@ -1,4 +1,5 @@
 pub mod CallLaws
+pub mod CalledLaws
 pub mod JudgeLaws
 pub mod KeepsLaws
 pub mod MeansLaws

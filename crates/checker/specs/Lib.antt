@@ -1,3 +1,4 @@
 pub mod Replies
 pub mod Exact
 pub mod Rep
+pub mod Statements
