@@ -1,5 +1,6 @@
 pub mod CallLaws
 pub mod CalledLaws
+pub mod GapLaws
 pub mod JudgeLaws
 pub mod KeepsLaws
 pub mod MeansLaws
