@@ -1,0 +1,270 @@
+//! The console's text language over the model, the journal in memory.
+
+use crate::model::{Answer, Command, State, NAMES};
+
+/// Bytes of the journal in memory.
+pub const JOURNAL: usize = 4_194_304;
+/// The longest line that is read.
+pub const LONGEST_LINE: usize = 4_096;
+
+pub struct Console {
+    pub state: State,
+    pub journal: Vec<u8>,
+    pub lent: usize,
+    /// Bytes of a line whose newline has not come yet.
+    begun: Vec<u8>,
+}
+
+impl Default for Console {
+    fn default() -> Console {
+        Console::new()
+    }
+}
+
+fn number(word: &[u8], most: u64) -> Option<u64> {
+    if word.is_empty() || !word.iter().all(u8::is_ascii_digit) {
+        return None;
+    }
+    let mut value: u128 = 0;
+    for digit in word {
+        value = value * 10 + u128::from(digit - b'0');
+        // Stops here so that no length of digits can run over.
+        if value > u128::from(most) {
+            return None;
+        }
+    }
+    Some(value as u64)
+}
+
+fn long(word: &[u8]) -> Option<u64> {
+    number(word, u64::MAX)
+}
+
+fn kind(word: &[u8]) -> Option<u64> {
+    for (i, name) in NAMES.iter().enumerate() {
+        if word == name.as_bytes() {
+            return Some(i as u64 + 1);
+        }
+    }
+    long(word)
+}
+
+fn hexadecimal(bytes: &[u8]) -> String {
+    let digit = |half: u8| char::from(b"0123456789abcdef"[usize::from(half)]);
+    let mut text = String::new();
+    for byte in bytes {
+        text.push(digit(byte >> 4));
+        text.push(digit(byte & 15));
+    }
+    text
+}
+
+fn with_place(word: &str, answer: Answer) -> String {
+    format!("{word} {} {} {}", answer.number, answer.cycle, answer.gap)
+}
+
+impl Console {
+    pub fn new() -> Console {
+        Console {
+            state: State::fresh(),
+            journal: vec![0; JOURNAL],
+            lent: JOURNAL,
+            begun: Vec::new(),
+        }
+    }
+
+    /// Takes bytes of standard input, gives the bytes of standard output.
+    pub fn feed(&mut self, bytes: &[u8]) -> Vec<u8> {
+        let mut out = Vec::new();
+        for byte in bytes {
+            if *byte == b'\n' {
+                let line = std::mem::take(&mut self.begun);
+                self.put(&mut out, &line, true);
+            } else {
+                self.begun.push(*byte);
+            }
+        }
+        out
+    }
+
+    /// The end of standard input: a last line without a newline counts.
+    pub fn finish(&mut self) -> Vec<u8> {
+        let mut out = Vec::new();
+        let line = std::mem::take(&mut self.begun);
+        if !line.is_empty() {
+            self.put(&mut out, &line, false);
+        }
+        out
+    }
+
+    fn put(&mut self, out: &mut Vec<u8>, line: &[u8], newline: bool) {
+        if let Some(answer) = self.line(line, newline) {
+            out.extend_from_slice(answer.as_bytes());
+            out.push(b'\n');
+        }
+    }
+
+    /// One line without its newline; `newline` says whether it had one.
+    pub fn line(&mut self, line: &[u8], newline: bool) -> Option<String> {
+        if line.len() > LONGEST_LINE {
+            return Some("?".to_string());
+        }
+        let text = match line {
+            [front @ .., b'\r'] if newline => front,
+            _ => line,
+        };
+        let mut words: Vec<&[u8]> = text.split(|b| *b == b' ' || *b == b'\t').collect();
+        words.retain(|word| !word.is_empty());
+        let first = words.first()?;
+        if first[0] == b'#' {
+            return None;
+        }
+        Some(self.words(&words).unwrap_or_else(|| "?".to_string()))
+    }
+
+    /// The answer to a line of one of the forms; none for any other line.
+    fn words(&mut self, words: &[&[u8]]) -> Option<String> {
+        let lent = &mut self.journal[..self.lent];
+        match (words[0], &words[1..]) {
+            (b"open", [ratio, ranks, mode, client, given @ ..]) => {
+                let numbers = (long(ratio)?, long(ranks)?, long(mode)?);
+                let client = number(client, u64::from(u32::MAX))? as u32;
+                let mut gaps = Vec::new();
+                for gap in given {
+                    gaps.push(number(gap, u64::from(u16::MAX))? as u16);
+                }
+                let gaps: [u16; 20] = gaps.try_into().ok()?;
+                let answer = self.state.open(lent, numbers, client, gaps);
+                Some(format!("open {answer}"))
+            }
+            (b"offer", [name, rank, bank, cycle]) => {
+                let command = Command {
+                    kind: kind(name)?,
+                    rank: long(rank)?,
+                    bank: long(bank)?,
+                    cycle: long(cycle)?,
+                };
+                Some(with_place("offer", self.state.offer(lent, command)))
+            }
+            (b"ask", [name, rank, bank]) => {
+                let answer = self.state.ask(kind(name)?, long(rank)?, long(bank)?);
+                Some(with_place("ask", answer))
+            }
+            (b"back", []) => Some(format!("back {}", self.state.back(lent))),
+            (b"status", []) => {
+                let s = self.state.status();
+                Some(format!(
+                    "status {} {} {} {} {} {} {}",
+                    s.number, s.client, s.opening, s.survivors, s.depth, s.last, s.records
+                ))
+            }
+            (b"stretch", []) => {
+                let stretch = self.state.stretch(lent);
+                Some(match stretch.len() {
+                    0 => "stretch 0".to_string(),
+                    length => format!("stretch {length} {}", hexadecimal(stretch)),
+                })
+            }
+            (b"lend", [bytes]) => {
+                self.lent = self.first_bytes(long(bytes)?);
+                Some(format!("lend {}", self.lent))
+            }
+            (b"restore", [bytes]) => {
+                let given = self.first_bytes(long(bytes)?);
+                let (answer, at, state) = State::restore(&self.journal[..given]);
+                self.state = state;
+                Some(format!("restore {answer} {at}"))
+            }
+            (b"poke", [at, byte]) => {
+                let (at, byte) = (long(at)?, number(byte, 255)?);
+                let place = self.journal.get_mut(usize::try_from(at).ok()?)?;
+                *place = byte as u8;
+                Some(format!("poke {at} {byte}"))
+            }
+            (b"bytes", [from, count]) => {
+                let (from, count) = (long(from)?, long(count)?);
+                if u128::from(from) + u128::from(count) > self.journal.len() as u128 {
+                    return None;
+                }
+                let (from, count) = (from as usize, count as usize);
+                Some(match count {
+                    0 => "bytes".to_string(),
+                    _ => format!("bytes {}", hexadecimal(&self.journal[from..from + count])),
+                })
+            }
+            _ => None,
+        }
+    }
+
+    /// A number of bytes, or all of the journal's if there are not so many.
+    fn first_bytes(&self, bytes: u64) -> usize {
+        u128::from(bytes).min(self.journal.len() as u128) as usize
+    }
+
+    /// The journal's front up to its last byte that is not 0, in whole records.
+    pub fn left(&self) -> Vec<u8> {
+        let used = self.journal.iter().rposition(|b| *b != 0);
+        let records = used.map_or(0, |at| at / 64 + 1);
+        self.journal[..64 * records].to_vec()
+    }
+}
+
+#[cfg(test)]
+mod tests {
+    use super::*;
+
+    fn printed(input: &[u8]) -> String {
+        let mut console = Console::new();
+        let mut out = console.feed(input);
+        out.extend(console.finish());
+        String::from_utf8(out).unwrap()
+    }
+
+    #[test]
+    fn numbers() {
+        assert_eq!(number(b"0", 255), Some(0));
+        assert_eq!(number(b"000000000000000000000000255", 255), Some(255));
+        assert_eq!(number(b"256", 255), None);
+        assert_eq!(long(b"18446744073709551615"), Some(u64::MAX));
+        assert_eq!(long(b"18446744073709551616"), None);
+        for word in [b"".as_slice(), b"+1", b"-1", b"1.", b"0x1", b"1\r", b"\xff"] {
+            assert_eq!(long(word), None);
+        }
+    }
+
+    #[test]
+    fn returns() {
+        assert_eq!(printed(b"back\r\n"), "back 1\n");
+        assert_eq!(printed(b"back\r\r\n"), "?\n");
+        assert_eq!(printed(b"back\r"), "?\n");
+        assert_eq!(printed(b"back \r\n"), "back 1\n");
+        assert_eq!(printed(b"\r\n"), "");
+        assert_eq!(printed(b"\r"), "?\n");
+        assert_eq!(printed(b"back"), "back 1\n");
+        assert_eq!(printed(b"\n\nback\n\n"), "back 1\n");
+    }
+
+    #[test]
+    fn long_lines() {
+        let of = |length: usize, ending: &str| {
+            let line = format!("back{}{ending}", " ".repeat(length - 4));
+            printed(line.as_bytes())
+        };
+        assert_eq!(of(4096, "\n"), "back 1\n");
+        assert_eq!(of(4096, ""), "back 1\n");
+        assert_eq!(of(4097, "\n"), "?\n");
+        assert_eq!(of(4095, "\r\n"), "back 1\n");
+        assert_eq!(of(4096, "\r\n"), "?\n");
+        assert_eq!(printed(&[b'#'; 4096]), "");
+        assert_eq!(printed(&[b'#'; 4097]), "?\n");
+        assert_eq!(printed(&[b' '; 4097]), "?\n");
+    }
+
+    #[test]
+    fn bytes_at_the_end() {
+        assert_eq!(printed(b"bytes 4194304 0\n"), "bytes\n");
+        assert_eq!(printed(b"bytes 4194305 0\n"), "?\n");
+        assert_eq!(printed(b"bytes 4194303 1\n"), "bytes 00\n");
+        assert_eq!(printed(b"bytes 1 18446744073709551615\n"), "?\n");
+    }
+}

@@ -1,0 +1,8 @@
+//! An independent program for document 01 and the bench console: a naive model,
+//! the listing, the console over the model, and a maker of scripts. It shares
+//! nothing with the product and is held against it from outside.
+
+pub mod console;
+pub mod generate;
+pub mod listing;
+pub mod model;

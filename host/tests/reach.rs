@@ -1,0 +1,76 @@
+//! The hand-steered script in reach/: its expected output is the model's, and it
+//! holds every answer number of every call but a restore's 9.
+
+use rossinhiu_host::console::Console;
+use rossinhiu_host::model::LAST_CYCLE;
+use std::collections::BTreeSet;
+use std::fs;
+use std::path::Path;
+
+fn file(name: &str) -> Vec<u8> {
+    let path = Path::new(env!("CARGO_MANIFEST_DIR"))
+        .join("reach")
+        .join(name);
+    fs::read(&path).unwrap_or_else(|error| panic!("{}: {error}", path.display()))
+}
+
+#[test]
+fn the_expected_output_is_the_models() {
+    let mut console = Console::new();
+    let mut out = console.feed(&file("stdin"));
+    out.extend(console.finish());
+    assert!(
+        out == file("stdout"),
+        "`model_console < reach/stdin` gives another reach/stdout"
+    );
+}
+
+#[test]
+fn every_answer_is_reached() {
+    let text = String::from_utf8(file("stdout")).expect("answers are plain text");
+    let lines: Vec<Vec<&str>> = text.lines().map(|l| l.split(' ').collect()).collect();
+    let count = |front: &[&str]| lines.iter().filter(|l| l.starts_with(front)).count();
+
+    let calls: [(&str, &[&str]); 6] = [
+        ("open", &["0", "9", "10"]),
+        ("offer", &["0", "1", "2", "3", "4", "5", "6", "7", "9"]),
+        ("ask", &["0", "1", "2", "3", "4"]),
+        ("back", &["0", "1", "8", "9"]),
+        ("status", &["0", "1"]),
+        ("restore", &["0", "11"]),
+    ];
+    for (call, numbers) in calls {
+        for number in numbers {
+            assert!(count(&[call, number]) > 0, "{call} {number}");
+        }
+        // And no number that the call does not have.
+        let known: usize = numbers.iter().map(|number| count(&[call, number])).sum();
+        assert_eq!(known, count(&[call]), "{call}");
+    }
+
+    let bad: BTreeSet<&str> = lines
+        .iter()
+        .filter(|l| l.starts_with(&["restore", "11"]))
+        .map(|l| l[2])
+        .collect();
+    assert!(bad.len() >= 5, "records named by 11: {bad:?}");
+
+    assert!(count(&["stretch", "0"]) > 0);
+    assert!(lines.iter().any(|l| l[0] == "stretch" && l.len() == 3));
+    assert!(count(&["lend"]) > 0 && count(&["poke"]) > 0);
+    assert!(lines.iter().any(|l| *l == ["bytes"]));
+    assert!(lines.iter().any(|l| l[0] == "bytes" && l.len() == 2));
+    assert!(count(&["?"]) >= 50);
+
+    let gaps = |call: &str, number: &str| -> BTreeSet<u64> {
+        let named = lines.iter().filter(|l| l.starts_with(&[call, number]));
+        named.map(|l| l[3].parse().unwrap()).collect()
+    };
+    assert_eq!(gaps("offer", "7"), (1..=20).collect());
+    assert_eq!(gaps("ask", "0"), (0..=20).collect());
+
+    let above =
+        |l: &Vec<&str>| l.starts_with(&["ask", "0"]) && l[2].parse::<u64>().unwrap() > LAST_CYCLE;
+    assert!(lines.iter().any(|l| above(l) && l[3] == "0"));
+    assert!(lines.iter().any(|l| above(l) && l[3] != "0"));
+}
