@@ -1,0 +1,49 @@
+// Lines in what was read: input comes in pieces, and a piece may end anywhere in a line.
+ghost use mathlib.Core.Path.{_≡_};
+ghost use lib.ListN.{length};
+ghost use Prim.Native.Nat.{_≤_};
+
+const NEWLINE: u8 = 10;
+
+// One byte more than a line may have: of a longer one this much is kept, and it stays too long.
+const MAX_KEPT: usize = 4097;
+
+// The place of the next newline, or the end of the bytes.
+pub fn line_end(bytes: &[u8], from: usize) -> usize
+    ensures { λ r. ⌜ (r ≤ length (now (bytes .entry))) × (from ≤ length (now (bytes .entry)) → from ≤ r) ⌝ }
+{
+    let mut i = from;
+    while i < bytes.len() {
+        if bytes[i] == NEWLINE {
+            return i;
+        }
+        i += 1;
+    }
+    bytes.len()
+}
+
+// The line under way, from a place to an end, goes to the front; how much of it is kept.
+pub fn keep(bytes: &mut [u8], from: usize, end: usize) -> usize
+    ensures { λ r. ⌜ (r ≤ 4097) × (length (now (bytes .exit)) ≡ length (now (bytes .entry))) ⌝ }
+{
+    if end <= from {
+        return 0;
+    }
+    if bytes.len() < end {
+        return 0;
+    }
+    let n = kept(end - from);
+    for i in 0..n {
+        bytes[i] = bytes[from + i];
+    }
+    n
+}
+
+fn kept(count: usize) -> usize
+    ensures { λ r. ⌜ (r ≤ count) × (r ≤ 4097) ⌝ }
+{
+    if count < MAX_KEPT {
+        return count;
+    }
+    MAX_KEPT
+}
