@@ -1,1 +1,3 @@
 pub mod ReachedLaws
+pub mod OfferLaws
+pub mod PlainlyLaws

@@ -1,2 +1,4 @@
 pub mod Outcomes
 pub mod Reached
+pub mod Offers
+pub mod Plainly
