@@ -7,3 +7,4 @@ pub mod MeansLaws
 pub mod RestoreLaws
 pub mod RestoreMeans
 pub mod TakeLaws
+pub mod StretchLaws

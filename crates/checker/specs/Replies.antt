@@ -15,6 +15,8 @@ use Rattle.checker.specs.declared.answers.StatusAnswer.{StatusAnswer}
 use Rattle.checker.specs.declared.answers.StatusAnswer.the-variants as status-case
 use Rattle.checker.specs.declared.answers.RestoreAnswer.{RestoreAnswer}
 use Rattle.checker.specs.declared.answers.RestoreAnswer.the-variants as restore-case
+use Rattle.checker.specs.declared.answers.Stretch.{Stretch}
+use Rattle.journal.specs.Restore.{Part}
 
 abbrev pub openReplied : OpenAnswer → Reply
 openReplied open-case.Accepted = plain 0
@@ -80,3 +82,7 @@ abbrev pub restoreBeside : RestoreAnswer → ℕ
 restoreBeside restore-case.Restored = 0
 restoreBeside restore-case.TooLong = 0
 restoreBeside (restore-case.BadRecord n) = n
+
+-- where the stretch stands in the lent journal
+abbrev pub stretchTold : Stretch → Part
+stretchTold r = record { start = r .start; size = r .size }

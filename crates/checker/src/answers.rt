@@ -75,3 +75,9 @@ pub struct Restored {
     pub session: Session,
     pub answer: RestoreAnswer,
 }
+
+// A part of the lent journal: where it starts and how many bytes it has.
+pub struct Stretch {
+    pub start: usize,
+    pub size: usize,
+}
