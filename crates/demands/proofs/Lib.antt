@@ -1,3 +1,6 @@
 pub mod ReachedLaws
 pub mod OfferLaws
 pub mod PlainlyLaws
+pub mod MoveLaws
+pub mod WrittenLaws
+pub mod RanLaws

@@ -2,3 +2,5 @@ pub mod Outcomes
 pub mod Reached
 pub mod Offers
 pub mod Plainly
+pub mod Runs
+pub mod Alike

@@ -1,3 +1,4 @@
+pub mod CurrentLaws
 pub mod StandingLaws
 pub mod AnswerLaws
 pub mod KCases

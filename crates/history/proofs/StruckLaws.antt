@@ -34,11 +34,11 @@ abbrev Left : List Answered → History → Type 0
 Left ps h = (n : ℕ) → n ≤ depthOf (standing h) → sinceOpening (untaken n (unrefused ps)) ≡ behind n (standing h)
 
 -- a refused call is struck in the first step; an accepted one is not
-unrefused-not : (c : Call) (n : ℕ) (ps : List Answered) → n ≢ 0 → unrefused (record { call = c; number = n } ∷ ps) ≡ unrefused ps
+pub unrefused-not : (c : Call) (n : ℕ) (ps : List Answered) → n ≢ 0 → unrefused (record { call = c; number = n } ∷ ps) ≡ unrefused ps
 unfolding unrefused
 unrefused-not c n ps above = rw (ne-eqb n 0 above)
 
-unrefused-yes : (c : Call) (n : ℕ) (ps : List Answered) → n ≡ 0 → unrefused (record { call = c; number = n } ∷ ps) ≡ c ∷ unrefused ps
+pub unrefused-yes : (c : Call) (n : ℕ) (ps : List Answered) → n ≡ 0 → unrefused (record { call = c; number = n } ∷ ps) ≡ c ∷ unrefused ps
 unfolding unrefused
 unrefused-yes c n ps e = rw (eq-eqb n 0 e)
 

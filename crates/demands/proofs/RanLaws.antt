@@ -1,0 +1,158 @@
+-- Demand 3: what any run has come to, and that it goes on after a mains failure as it did before.
+use mathlib.Core.Path.{_≡_, refl, sym, _∙_, ap, subst}
+use mathlib.Core.Bool.{Bool, true, false, cond}
+use mathlib.Core.List.{List, [], _∷_, _++_}
+use Prim.Native.Nat.{ℕ, zero, suc, _+_, _-_, _*_, _/_, _≤_, _<_, min}
+use native.Mathlib.Omega.{arith}
+use lib.Dec.{leb}
+use lib.ListN.{length, take, drop, length-append, length-drop, take-append-drop}
+use lib.Seq.{take-at, drop-at, drop-drop, take-append-le, drop-append-le, take-take, length-take-le}
+use borrow.Author.Tests.{leb-true, leb-false, le-leb}
+use Rattle.timing.specs.Kinds.{kindOf}
+use Rattle.history.specs.Records.{Record, History, Current, closed, session, standing}
+use Rattle.history.specs.Answers.{maxRecords, roomOf, Reply, Verdict, refused, accepted, replyOf, nextOf, openCase, offerCase, earliestCase, takeBackCase, statusCase, openOn, offerOn, earliestOn, takeBackOn, statusOn}
+use Rattle.history.specs.Struck.{Call, open-session, offer, take-back, Answered, unrefused, recordsOf, current, recordsIn, verdict, Told, nothing-yet, then}
+use Rattle.history.proofs.AnswerLaws.{Passed, call-passed}
+use Rattle.history.proofs.StandingLaws.{Below, number-below}
+use Rattle.history.proofs.CurrentLaws.{told-kept, told-current}
+use Rattle.session.specs.declared.state.Session.{Session}
+use Rattle.journal.specs.Bytes.{recordSize, bytesOf}
+use Rattle.journal.specs.Restore.{written, putAt, bytesAfter, Restored, restored, restoreNumber, restoreAt, historyOf, restoreOf, Part, noPart, partOf, stretchCase, stretchOf}
+use Rattle.checker.specs.Rep.{AllSized, Rep}
+use Rattle.checker.specs.Statements.{RestoreTold}
+use Rattle.checker.proofs.KeepsLaws.{fresh-rep}
+use Rattle.demands.specs.Outcomes.{Move, calls, asks-earliest, asks-status, asks-stretch, Answer, replied, stated, handed, Does}
+use Rattle.demands.specs.Runs.{Event, moved, failed, rightAfter, numberIn, noted, lasting, Run, starts, moves, fails, answerBy, Plays, ends, plays, Placed, putAll, SamePuts, GoesOnAs}
+use Rattle.demands.proofs.MoveLaws.{answerOn, verdictOn, Done, does-on}
+use Rattle.demands.proofs.WrittenLaws.{length-written, put-behind, older, older-all, older-less, older-length, written-older, restore-cut}
+
+-- a state and a journal that hold a history: the journal begins with its bytes, and behind them is as it was first
+pub record Holding (room : ℕ) (h : History) (s : Session) (first j : List ℕ) : Type 0 where
+  pub rep : Rep s h
+  pub room-is : roomOf (length j) ≡ room
+  pub begins : j ≡ written h ++ drop (64 * length h) first
+
+module _ (room : ℕ) (h : History) where
+  -- an accepted move found room
+  passed-on : (m : Move) → Passed room h (verdictOn room h m)
+  passed-on (calls c) = call-passed room h c
+  passed-on (asks-earliest kind rank bank) = tt
+  passed-on asks-status = tt
+  passed-on asks-stretch = tt
+
+  next-holds : (s next : Session) (first j after : List ℕ) (v : Verdict) → Holding room h s first j → Passed room h v → Rep next (nextOf h v) → after ≡ bytesAfter j (length h) v
+      → Holding room (nextOf h v) next first after
+  next-holds s next first j after (refused r) k p rep is = record { rep = rep; room-is = rw is (k .room-is); begins = is ∙ k .begins }
+  next-holds s next first j after (accepted r e) k p rep is =
+      let rest = drop (64 * length h) first in
+      let begins : j ≡ written h ++ rest = k .begins in
+      let put : putAt j (64 * length h) (bytesOf e) ≡ written (e ∷ h) ++ drop 64 rest = ap (λ (z : List ℕ). putAt z (64 * length h) (bytesOf e)) begins ∙ put-behind h e rest (k .rep .sized) (rep .sized .0) in
+      let behind : drop 64 rest ≡ drop (64 * length h + 64) first = drop-drop 64 (64 * length h) first in
+      let place : 64 * length h + 64 ≡ 64 * suc (length h) = omega arith in
+      let all : after ≡ written (e ∷ h) ++ drop (64 * suc (length h)) first = is ∙ put ∙ ap (λ (z : List ℕ). written (e ∷ h) ++ z) (behind ∙ ap (λ (n : ℕ). drop n first) place) in
+      let size : length after ≡ length j =
+      (let one = ap length (is ∙ put) ∙ length-append (written (e ∷ h)) (drop 64 rest) in
+      let two = ap length begins ∙ length-append (written h) rest in
+      let left = length-drop 64 rest in
+      let long = length-written (e ∷ h) (rep .sized) in
+      let before = length-written h (k .rep .sized) in
+      let room : length h < min (length j / 64) maxRecords = rw (k .room-is) (p .2) in
+      omega (arith, one, two, left, long, before, room)) in
+      record { rep = rep; room-is = ap roomOf size ∙ k .room-is; begins = all }
+
+pub does-holds : (room : ℕ) (h : History) {m : Move} {s next : Session} {first j after : List ℕ} {a : Answer} → Holding room h s first j → Does m s j a next after
+    → Holding room (nextOf h (verdictOn room h m)) next first after
+does-holds room h {m} {s} {next} {first} {j} {after} k d =
+    let w = does-on d h (k .rep) in
+    next-holds room h s next first j after (verdictOn room h m) k (passed-on room h m) (subst (λ (n : ℕ). Rep next (nextOf h (verdictOn n h m))) (k .room-is) (w .stands))
+    (subst (λ (n : ℕ). after ≡ bytesAfter j (length h) (verdictOn n h m)) (k .room-is) (w .bytes))
+
+-- winding back a run winds back its history
+wound-step : (h : History) (v : Verdict) (n : ℕ) → n < length (nextOf h v) → (n ≤ length h) × (older n (nextOf h v) ≡ older n h)
+wound-step h (refused r) n l = (omega arith, refl)
+wound-step h (accepted r e) n l = let less : n ≤ length h = omega arith in (less, older-less e h n less)
+
+told-right-after : {ps : List Answered} {h : History} → Told ps h → (n : ℕ) → n ≤ length h → Told (rightAfter n ps) (older n h)
+unfolding rightAfter
+told-right-after nothing-yet n l = let none : n ≡ 0 = omega arith in rw none nothing-yet
+told-right-after (then {ps = ps} {h = h} before room c) n l = go (leb (recordsIn (a ∷ ps)) n) refl (λ less. told-right-after before n less)
+  where
+    a : Answered
+    a = record { call = c; number = replyOf (verdict room h c) .number }
+
+    v : Verdict
+    v = verdict room h c
+
+    count : length (nextOf h v) ≡ recordsIn (a ∷ ps)
+    count = told-kept (then before room c) .count
+
+    go : (t : Bool) → leb (recordsIn (a ∷ ps)) n ≡ t → (n ≤ length h → Told (rightAfter n ps) (older n h)) → Told (cond t (a ∷ ps) (rightAfter n ps)) (older n (nextOf h v))
+    go true e on =
+        let all : n ≡ length (nextOf h v) = omega (arith, leb-true (recordsIn (a ∷ ps)) n e, count, l) in
+        subst (Told (a ∷ ps)) (sym (older-all (nextOf h v) n all)) (then before room c)
+    go false e on =
+        let w = wound-step h v n (omega (arith, leb-false (recordsIn (a ∷ ps)) n e, count)) in
+        subst (Told (rightAfter n ps)) (sym (w .1)) (on (w .0))
+
+-- a restore of the first k bytes gives the first k / 64 records
+module _ (room : ℕ) (h : History) (s next : Session) (first j after : List ℕ) (k : ℕ) (is : Holding room h s first j) (l : k ≤ 64 * length h)
+    (same : take k after ≡ take k j) (number at : ℕ) (told : RestoreTold (take k after) number at next) where
+  abbrev whole : ℕ
+  whole = k / 64
+
+  inside : whole ≤ length h
+  inside = omega (arith, l)
+
+  cut-gives : restoreOf (take k after) ≡ restored (older whole h)
+  cut-gives = ap (λ (z : List ℕ). restoreOf z) (same ∙ ap (take k) (is .begins)) ∙ restore-cut h (is .rep .sized) (is .rep .isFine) (is .rep .few) (drop (64 * length h) first) k l
+
+  pub cut-number : (number ≡ 0) × (at ≡ 0)
+  cut-number = (told .answer ∙ ap restoreNumber cut-gives, told .beside ∙ ap restoreAt cut-gives)
+
+  pub cut-holds : roomOf (length after) ≡ room → Holding room (older whole h) next after after
+  cut-holds room-is =
+      let size = older-length h whole inside in
+      let front : take (64 * whole) after ≡ written (older whole h) =
+      sym (take-take (64 * whole) k after (omega arith))
+      ∙ ap (take (64 * whole)) same
+      ∙ take-take (64 * whole) k j (omega arith)
+      ∙ ap (take (64 * whole)) (is .begins)
+      ∙ take-append-le (64 * whole) (written h) (drop (64 * length h) first) (let long = length-written h (is .rep .sized) in omega (arith, long, inside))
+      ∙ written-older h (is .rep .sized) whole inside in
+      record {
+        rep = subst (Rep next) (ap historyOf cut-gives) (told .state);
+        room-is = room-is;
+        begins = sym (take-append-drop (64 * whole) after) ∙ ap (λ (z : List ℕ). z ++ drop (64 * whole) after) front ∙ ap (λ (n : ℕ). written (older whole h) ++ drop (64 * n) after) (sym size);
+      }
+
+-- what a run has come to
+pub record Came (room : ℕ) (es : List Event) (s : Session) (first j : List ℕ) : Type 0 where
+  pub records : History
+  pub told : Told (lasting es) records
+  pub holding : Holding room records s first j
+
+noted-told : (m : Move) (room : ℕ) (ps : List Answered) (h : History) (j : List ℕ) (a : Answer) → Told ps h → a ≡ answerOn room h m j → Told (noted m (numberIn a) ps) (nextOf h (verdictOn room h m))
+noted-told (calls c) room ps h j a told is = subst (λ (n : ℕ). Told (record { call = c; number = n } ∷ ps) (nextOf h (verdict room h c))) (sym (ap numberIn is)) (then told room c)
+noted-told (asks-earliest kind rank bank) room ps h j a told is = told
+noted-told asks-status room ps h j a told is = told
+noted-told asks-stretch room ps h j a told is = told
+
+pub came : {room : ℕ} {es : List Event} {s : Session} {first j : List ℕ} → Run room es s first j → Came room es s first j
+unfolding lasting written
+came (starts j room-is) = record { records = []; told = nothing-yet; holding = record { rep = fresh-rep; room-is = room-is; begins = refl } }
+came {room} (moves {es = es} {j = j} {m = m} {a = a} before d) =
+    let w = came before in
+    let is : a ≡ answerOn room (w .records) m j = does-on d (w .records) (w .holding .rep) .answer ∙ ap (λ (n : ℕ). answerOn n (w .records) m j) (w .holding .room-is) in
+    record {
+      records = nextOf (w .records) (verdictOn room (w .records) m);
+      told = noted-told m room (lasting es) (w .records) j a (w .told) is;
+      holding = does-holds room (w .records) (w .holding) d;
+    }
+came {room} (fails {s = s} {next = next} {first = first} {j = j} before k l after room-is same number at told) =
+    let w = came before in
+    let low : k ≤ 64 * length (w .records) = rw (w .holding .rep .records) at l in
+    record {
+      records = older (k / 64) (w .records);
+      told = told-right-after (w .told) (k / 64) (omega (arith, low));
+      holding = cut-holds room (w .records) s next first j after k (w .holding) low same number at told room-is;
+    }

@@ -1,0 +1,125 @@
+-- The bytes of a history, and what a restore of any first bytes of them gives.
+use mathlib.Core.Path.{_≡_, refl, sym, _∙_, ap, subst}
+use mathlib.Core.Bool.{Bool, true, false, cond, _&&_}
+use mathlib.Core.List.{List, [], _∷_, _++_, append-nil}
+use Prim.Native.Nat.{ℕ, zero, suc, _+_, _-_, _*_, _/_, _≤_, _<_}
+use native.Mathlib.Omega.{arith}
+use lib.Dec.{T, leb, ltb}
+use lib.ListN.{length, take, drop, length-append, length-drop, take-append-drop}
+use lib.Seq.{take-at, drop-at, drop-drop, drop-append-add, take-append-le, take-all, take-take, length-take-le}
+use borrow.Author.Tests.{leb-true, leb-false, le-ltb}
+use Rattle.timing.proofs.Truth.{and-left, and-right, true-is}
+use Rattle.history.specs.Records.{Record, History, standing}
+use Rattle.history.specs.Answers.{maxRecords, fits, follows, fine}
+use Rattle.journal.specs.Bytes.{recordSize, bytesOf, Sized, Held, holding, nothing, recordIn}
+use Rattle.journal.specs.Restore.{written, putAt, pieces, passed, taken, Restored, tooLong, badAt, restored, orBad, replay, restoreOf, historyOf}
+use Rattle.journal.proofs.Codec.{bytes-size, read-written}
+use Rattle.journal.proofs.PieceLaws.{pieces-join}
+use Rattle.checker.specs.Rep.{AllSized}
+
+pub length-written : (h : History) → AllSized h → length (written h) ≡ 64 * length h
+unfolding written
+length-written [] sized = refl
+length-written (r ∷ h) sized = length-append (written h) (bytesOf r) ∙ omega (arith, length-written h (sized .1), bytes-size r (sized .0))
+
+-- a record behind them
+pub put-behind : (h : History) (e : Record) (rest : List ℕ) → AllSized h → Sized e → putAt (written h ++ rest) (64 * length h) (bytesOf e) ≡ written (e ∷ h) ++ drop 64 rest
+unfolding written
+put-behind h e rest sized one =
+    let size = length-written h sized in
+    let place : 64 * length h + length (bytesOf e) ≡ length (written h) + 64 = omega (arith, bytes-size e one, size) in
+    rw (take-at (written h) rest (64 * length h) size, place, drop-append-add (written h) rest 64)
+
+-- the first n records
+abbrev pub older : ℕ → History → History
+older n h = drop (length h - n) h
+
+pub older-all : (h : History) (n : ℕ) → n ≡ length h → older n h ≡ h
+older-all h n e = let none : length h - n ≡ 0 = omega arith in rw none
+
+pub older-less : (e : Record) (h : History) (n : ℕ) → n ≤ length h → older n (e ∷ h) ≡ older n h
+older-less e h n l = let one : suc (length h) - n ≡ suc (length h - n) = omega arith in rw one
+
+pub older-length : (h : History) (n : ℕ) → n ≤ length h → length (older n h) ≡ n
+older-length h n l = length-drop (length h - n) h ∙ omega arith
+
+pub sized-older : (k : ℕ) (h : History) → AllSized h → AllSized (drop k h)
+sized-older zero h s = s
+sized-older (suc k) [] s = s
+sized-older (suc k) (r ∷ h) s = sized-older k h (s .1)
+
+fine-older : (k : ℕ) (h : History) → T (fine h) → T (fine (drop k h))
+unfolding fine
+fine-older zero h f = f
+fine-older (suc k) [] f = f
+fine-older (suc k) (r ∷ h) f = fine-older k h (and-right (fits (standing h) r && follows (standing h) r) (fine h) f)
+
+pub written-older : (h : History) → AllSized h → (n : ℕ) → n ≤ length h → take (64 * n) (written h) ≡ written (older n h)
+unfolding written
+written-older [] sized n l = let none : n ≡ 0 = omega arith in rw none
+written-older (r ∷ h) sized n l = go (leb n (length h)) refl (written-older h (sized .1) n)
+  where
+    go : (t : Bool) → leb n (length h) ≡ t → (n ≤ length h → take (64 * n) (written h) ≡ written (older n h)) → take (64 * n) (written h ++ bytesOf r) ≡ written (older n (r ∷ h))
+    go true e before =
+        let less = leb-true n (length h) e in
+        let size = length-written h (sized .1) in
+        take-append-le (64 * n) (written h) (bytesOf r) (omega (arith, less, size)) ∙ before less ∙ ap written (sym (older-less r h n less))
+    go false e before =
+        let all : n ≡ length (r ∷ h) = omega (arith, leb-false n (length h) e, l) in
+        let size : length (written h ++ bytesOf r) ≡ 64 * suc (length h) = length-written (r ∷ h) sized in
+        take-all (64 * n) (written h ++ bytesOf r) (omega (arith, all, size)) ∙ ap written (sym (older-all (r ∷ h) n all))
+
+-- a replay goes on where a part of it ended
+replay-on : (ps qs : List (List ℕ)) (h g : History) → replay ps h ≡ restored g → replay (ps ++ qs) h ≡ replay qs g
+unfolding replay
+replay-on [] qs h g e = ap (replay qs) (ap historyOf e)
+replay-on (p ∷ ps) qs h g e = go (taken h p) (λ r. replay-on ps qs (r ∷ h) g) e
+  where
+    go : (k : Held) → ((r : Record) → replay ps (r ∷ h) ≡ restored g → replay (ps ++ qs) (r ∷ h) ≡ replay qs g)
+        → orBad (length h) k (λ r. replay ps (r ∷ h)) ≡ restored g → orBad (length h) k (λ r. replay (ps ++ qs) (r ∷ h)) ≡ replay qs g
+    go nothing on e = absurd (let z : _≡_ {A = ℕ} 0 1 = cc in omega arith)
+    go (holding r) on e = on r e
+
+-- what was written is taken
+taken-written : (h : History) (r : Record) → Sized r → fits (standing h) r ≡ true → follows (standing h) r ≡ true → taken h (bytesOf r) ≡ holding r
+taken-written h r sized f g = rw (read-written r sized, f, g)
+
+pub replay-written : (h : History) → AllSized h → T (fine h) → replay (pieces (length h) (written h)) [] ≡ restored h
+unfolding written replay pieces fine
+replay-written [] sized f = refl
+replay-written (r ∷ h) sized f =
+    let size = length-written h (sized .1) in
+    let both = and-left (fits (standing h) r && follows (standing h) r) (fine h) f in
+    let more : suc (length h) ≡ length h + 1 = omega arith in
+    let whole : take 64 (bytesOf r) ≡ bytesOf r = take-all 64 (bytesOf r) (omega (arith, bytes-size r (sized .0))) in
+    ap (λ (n : ℕ). replay (pieces n (written h ++ bytesOf r)) []) more
+    ∙ ap (λ (ps : List (List ℕ)). replay ps []) (pieces-join (length h) 1 (written h) (bytesOf r) size)
+    ∙ replay-on (pieces (length h) (written h)) (take 64 (bytesOf r) ∷ []) [] h (replay-written h (sized .1) (and-right (fits (standing h) r && follows (standing h) r) (fine h) f))
+    ∙ rw (whole, taken-written h r (sized .0) (true-is (fits (standing h) r) (and-left (fits (standing h) r) (follows (standing h) r) both)) (true-is (follows (standing h) r) (and-right (fits (standing h) r) (follows (standing h) r) both)))
+
+-- records and up to 63 bytes behind them restore to the records
+restore-records : (h : History) → AllSized h → T (fine h) → length h ≤ maxRecords → (loose : List ℕ) → length loose < 64 → restoreOf (written h ++ loose) ≡ restored h
+unfolding restoreOf pieces
+restore-records h sized f few loose short =
+    let size = length-written h sized in
+    let count : length (written h ++ loose) / 64 ≡ length h = (let both = length-append (written h) loose in omega (arith, both, size)) in
+    let none : length h ≡ length h + 0 = omega arith in
+    rw (count, le-ltb maxRecords (length h) few)
+    (ap (λ (n : ℕ). replay (pieces n (written h ++ loose)) []) none
+    ∙ ap (λ (ps : List (List ℕ)). replay ps []) (pieces-join (length h) 0 (written h) loose size ∙ append-nil (pieces (length h) (written h)))
+    ∙ replay-written h sized f)
+
+-- THE CUT: the first k bytes of a journal that begins with a history's bytes restore to its first k / 64 records
+pub restore-cut : (h : History) → AllSized h → T (fine h) → length h ≤ maxRecords → (rest : List ℕ) (k : ℕ) → k ≤ 64 * length h
+    → restoreOf (take k (written h ++ rest)) ≡ restored (older (k / 64) h)
+restore-cut h sized f few rest k l =
+    let n = k / 64 in
+    let size = length-written h sized in
+    let inside : n ≤ length h = omega arith in
+    let cut : take k (written h ++ rest) ≡ take k (written h) = take-append-le k (written h) rest (omega (arith, size)) in
+    let front : take (64 * n) (take k (written h)) ≡ written (older n h) = take-take (64 * n) k (written h) (omega arith) ∙ written-older h sized n inside in
+    let long : length (take k (written h)) ≡ k = length-take-le k (written h) (omega (arith, size)) in
+    let loose = drop (64 * n) (take k (written h)) in
+    let short : length loose < 64 = (let left = length-drop (64 * n) (take k (written h)) in omega (arith, left, long)) in
+    ap restoreOf (cut ∙ sym (take-append-drop (64 * n) (take k (written h))) ∙ ap (λ (z : List ℕ). z ++ loose) front)
+    ∙ restore-records (older n h) (sized-older (length h - n) h sized) (fine-older (length h - n) h f) (omega (arith, older-length h n inside, few)) loose short
