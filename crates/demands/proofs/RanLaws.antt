@@ -22,7 +22,7 @@ use Rattle.checker.specs.Rep.{AllSized, Rep}
 use Rattle.checker.specs.Statements.{RestoreTold}
 use Rattle.checker.proofs.KeepsLaws.{fresh-rep}
 use Rattle.demands.specs.Outcomes.{Move, calls, asks-earliest, asks-status, asks-stretch, Answer, replied, stated, handed, Does}
-use Rattle.demands.specs.Runs.{Event, moved, failed, rightAfter, numberIn, noted, lasting, Run, starts, moves, fails, answerBy, Plays, ends, plays, Placed, putAll, SamePuts, GoesOnAs}
+use Rattle.demands.specs.Runs.{Event, moved, failed, rightAfter, numberIn, noted, lasting, Run, starts, moves, fails, answerAt, answerBy, Plays, ends, plays, Placed, putAll, SamePuts, GoesOnAs}
 use Rattle.demands.proofs.MoveLaws.{answerOn, verdictOn, Done, does-on}
 use Rattle.demands.proofs.WrittenLaws.{length-written, put-behind, older, older-all, older-less, older-length, written-older, restore-cut}
 
@@ -156,3 +156,152 @@ came {room} (fails {s = s} {next = next} {first = first} {j = j} before k l afte
       told = told-right-after (w .told) (k / 64) (omega (arith, low));
       holding = cut-holds room (w .records) s next first j after k (w .holding) low same number at told room-is;
     }
+
+-- the answer on the history is document 01's over the calls and answers
+by-calls : (room : ℕ) (ps : List Answered) (h : History) → Told ps h → (m : Move) (j : List ℕ) → answerOn room h m j ≡ answerBy room ps m j
+unfolding openOn offerOn earliestOn takeBackOn statusOn stretchOf
+by-calls room ps h told m j = rw (← told-current told, ← told-kept told .count) (go m)
+  where
+    go : (m : Move) → answerOn room h m j ≡ answerAt room (length h) (standing h) m j
+    go (calls (open-session o)) = refl
+    go (calls (offer kind rank bank t)) = refl
+    go (calls take-back) = refl
+    go (asks-earliest kind rank bank) = refl
+    go asks-status = refl
+    go asks-stretch = refl
+
+-- DEMAND 3, first half. After any run each move gets document 01's answer over the calls and answers that last
+pub demand-three : {room : ℕ} {es : List Event} {s next : Session} {first j after : List ℕ} {m : Move} {a : Answer}
+    → Run room es s first j → Does m s j a next after → a ≡ answerBy room (lasting es) m j
+demand-three {room} {es} {j = j} {m = m} run d =
+    let w = came run in
+    does-on d (w .records) (w .holding .rep) .answer
+    ∙ ap (λ (n : ℕ). answerOn n (w .records) m j) (w .holding .room-is)
+    ∙ by-calls room (lasting es) (w .records) (w .told) m j
+
+-- the journal begins with the accepted records' bytes, and no byte behind them has changed
+pub journal-begins : {room : ℕ} {es : List Event} {s : Session} {first j : List ℕ}
+    → Run room es s first j → j ≡ written (recordsOf (unrefused (lasting es))) ++ drop (64 * recordsIn (lasting es)) first
+journal-begins {es = es} {first = first} {j = j} run =
+    let w = came run in
+    let k = told-kept (w .told) in
+    w .holding .begins ∙ ap (λ (n : ℕ). written (w .records) ++ drop (64 * n) first) (k .count) ∙ ap (λ (h : History). written h ++ drop (64 * recordsIn (lasting es)) first) (k .records)
+
+-- THE SAME ANSWERS from two states and journals that hold one history. The stretch lies inside the history's bytes
+part-inside : (w rest : List ℕ) (p : Part) → p .start + p .size ≤ length w → partOf p (w ++ rest) ≡ partOf p w
+part-inside w rest p l =
+    let size = length-drop (p .start) w in
+    ap (take (p .size)) (drop-append-le (p .start) w rest (omega arith)) ∙ take-append-le (p .size) (drop (p .start) w) rest (omega (arith, size))
+
+module _ (h : History) (sized : AllSized h) where
+  abbrev bytes : List ℕ
+  bytes = written h
+
+  stretch-of : (rest : List ℕ) → (stretchOf h (length (bytes ++ rest)) ≡ stretchOf h (length bytes)) × (partOf (stretchOf h (length (bytes ++ rest))) (bytes ++ rest) ≡ partOf (stretchOf h (length bytes)) bytes)
+  unfolding stretchOf
+  stretch-of rest = go (standing h) (number-below h)
+    where
+      size : length bytes ≡ 64 * length h
+      size = length-written h sized
+
+      fits : leb (64 * length h) (length bytes) ≡ true
+      fits = le-leb (64 * length h) (length bytes) (omega (arith, size))
+
+      fits-too : leb (64 * length h) (length (bytes ++ rest)) ≡ true
+      fits-too = let both = length-append bytes rest in le-leb (64 * length h) (length (bytes ++ rest)) (omega (arith, size, both))
+
+      go : (k : Current) → Below (length h) k
+          → (stretchCase (length h) k (length (bytes ++ rest)) ≡ stretchCase (length h) k (length bytes)) × (partOf (stretchCase (length h) k (length (bytes ++ rest))) (bytes ++ rest) ≡ partOf (stretchCase (length h) k (length bytes)) bytes)
+      go closed l = (refl, refl)
+      go (session st) l =
+          rw (fits, fits-too)
+          (refl, part-inside bytes rest (record { start = 64 * st .number; size = 64 * (length h - st .number) }) (omega (arith, size, l)))
+
+  same-answer : (room : ℕ) (m : Move) (rest rest′ : List ℕ) → answerOn room h m (bytes ++ rest) ≡ answerOn room h m (bytes ++ rest′)
+  same-answer room (calls c) rest rest′ = refl
+  same-answer room (asks-earliest kind rank bank) rest rest′ = refl
+  same-answer room asks-status rest rest′ = refl
+  same-answer room asks-stretch rest rest′ = handed-same rest ∙ sym (handed-same rest′)
+    where
+      handed-same : (x : List ℕ) → answerOn room h asks-stretch (bytes ++ x) ≡ handed (stretchOf h (length bytes)) (partOf (stretchOf h (length bytes)) bytes)
+      handed-same x = let w = stretch-of x in ap (λ (b : List ℕ). handed (stretchOf h (length (bytes ++ x))) b) (w .1) ∙ ap (λ (p : Part). handed p (partOf (stretchOf h (length bytes)) bytes)) (w .0)
+
+-- the records of one more move
+abbrev putOf : ℕ → Verdict → List Placed → List Placed
+putOf n (refused r) ps = ps
+putOf n (accepted r e) ps = record { number = n; one = e } ∷ ps
+
+put-one : (n : ℕ) (v : Verdict) (ps : List Placed) (j : List ℕ) → putAll ps (bytesAfter j n v) ≡ putAll (putOf n v ps) j
+unfolding putAll
+put-one n (refused r) ps j = refl
+put-one n (accepted r e) ps j = refl
+
+pub goes-on : (room : ℕ) (h : History) (s s′ : Session) (first first′ j j′ : List ℕ) → Holding room h s first j → Holding room h s′ first′ j′ → GoesOnAs s j s′ j′
+unfolding putAll
+goes-on room h s s′ first first′ j j′ k k′ ms xs xs′ last last′ final final′ ends ends = (refl, record { puts = []; one = refl; other = refl })
+goes-on room h s s′ first first′ j j′ k k′ ms xs xs′ last last′ final final′ (plays {next = next} {after = after} {m = m} {a = a} {ms = more} {xs = as₁} d p) (plays {next = next′} {after = after′} {a = a′} {xs = as₂} d′ p′) =
+    let one = does-on d h (k .rep) in
+    let other = does-on d′ h (k′ .rep) in
+    let v = verdictOn room h m in
+    let rest = goes-on room (nextOf h v) next next′ first first′ after after′ (does-holds room h k d) (does-holds room h k′ d′) more as₁ as₂ last last′ final final′ p p′ in
+    let told : a ≡ answerOn room h m j = one .answer ∙ ap (λ (n : ℕ). answerOn n h m j) (k .room-is) in
+    let told′ : a′ ≡ answerOn room h m j′ = other .answer ∙ ap (λ (n : ℕ). answerOn n h m j′) (k′ .room-is) in
+    let same : a ≡ a′ =
+    told
+    ∙ ap (answerOn room h m) (k .begins)
+    ∙ same-answer h (k .rep .sized) room m (drop (64 * length h) first) (drop (64 * length h) first′)
+    ∙ ap (answerOn room h m) (sym (k′ .begins))
+    ∙ sym told′ in
+    let bytes : after ≡ bytesAfter j (length h) v = subst (λ (n : ℕ). after ≡ bytesAfter j (length h) (verdictOn n h m)) (k .room-is) (one .bytes) in
+    let bytes′ : after′ ≡ bytesAfter j′ (length h) v = subst (λ (n : ℕ). after′ ≡ bytesAfter j′ (length h) (verdictOn n h m)) (k′ .room-is) (other .bytes) in
+    (
+      ap (λ (x : Answer). x ∷ as₁) same ∙ ap (λ (xs : List Answer). a′ ∷ xs) (rest .0),
+      record {
+        puts = putOf (length h) v (rest .1 .puts);
+        one = rest .1 .one ∙ ap (putAll (rest .1 .puts)) bytes ∙ put-one (length h) v (rest .1 .puts) j;
+        other = rest .1 .other ∙ ap (putAll (rest .1 .puts)) bytes′ ∙ put-one (length h) v (rest .1 .puts) j′;
+      },
+    )
+
+-- moves only add records
+pub record Grown (room : ℕ) (h : History) (s : Session) (first j : List ℕ) : Type 0 where
+  pub records : History
+  pub holding : Holding room records s first j
+  pub more : length h ≤ length records
+  pub on : older (length h) records ≡ h
+
+grown-step : (room : ℕ) (h : History) (v : Verdict) (s : Session) (first j : List ℕ) → Grown room (nextOf h v) s first j → Grown room h s first j
+grown-step room h (refused r) s first j g = g
+grown-step room h (accepted r e) s first j g =
+    record { records = g .records; holding = g .holding; more = omega (arith, g .more); on = back }
+  where
+    n : ℕ
+    n = length h
+
+    back : older n (g .records) ≡ h
+    back =
+        let total = length (g .records) in
+        let one : total - n ≡ total - suc n + 1 = omega (arith, g .more) in
+        ap (λ (k : ℕ). drop k (g .records)) one ∙ sym (drop-drop 1 (total - suc n) (g .records)) ∙ ap (drop 1) (g .on)
+
+plays-hold : (room : ℕ) (h : History) {s last : Session} {first j after : List ℕ} {ms : List Move} {xs : List Answer} → Holding room h s first j → Plays s j ms xs last after → Grown room h last first after
+plays-hold room h k ends = record { records = h; holding = k; more = omega arith; on = older-all h (length h) refl }
+plays-hold room h {last = last} {first = first} {after = after} k (plays {m = m} d p) =
+    grown-step room h (verdictOn room h m) last first after (plays-hold room (nextOf h (verdictOn room h m)) (does-holds room h k d) p)
+
+-- DEMAND 3, second half. A run stands where its last record is number k / 64, and goes on; the mains fail, and the first k bytes are left.
+-- The restore answers 0, and what it gives goes on as the run did from there, over any journal with these first bytes and this room
+pub cut : {room : ℕ} {es : List Event} {s last next : Session} {first j j′ after : List ℕ} {ms : List Move} {xs : List Answer} {k number at : ℕ}
+    → Run room es s first j → Plays s j ms xs last j′ → k / 64 ≡ s .records → k ≤ 64 * last .records
+    → roomOf (length after) ≡ room → take k after ≡ take k j′ → RestoreTold (take k after) number at next
+    → (number ≡ 0) × (at ≡ 0) × GoesOnAs next after s j
+cut {room} {es} {s} {last} {next} {first} {j} {j′} {after} {ms} {xs} {k} {number} {at} run on whole l room-is same told =
+    let w = came run in
+    let h = w .records in
+    let g = plays-hold room h (w .holding) on in
+    let low : k ≤ 64 * length (g .records) = rw (g .holding .rep .records) at l in
+    let here : k / 64 ≡ length h = whole ∙ w .holding .rep .records in
+    let numbers = cut-number room (g .records) last next first j′ after k (g .holding) low same number at told in
+    let restored-holds = cut-holds room (g .records) last next first j′ after k (g .holding) low same number at told room-is in
+    let back : older (k / 64) (g .records) ≡ h = ap (λ (n : ℕ). older n (g .records)) here ∙ g .on in
+    (numbers .0, numbers .1, goes-on room h next s after first after j (subst (λ (x : History). Holding room x next after after) back restored-holds) (w .holding))
