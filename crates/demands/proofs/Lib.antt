@@ -4,3 +4,4 @@ pub mod PlainlyLaws
 pub mod MoveLaws
 pub mod WrittenLaws
 pub mod RanLaws
+pub mod AlikeLaws

@@ -1,26 +1,31 @@
 -- Demand 1 for every state value, from what each call leaves.
 use mathlib.Core.Path.{_≡_, refl, sym, _∙_, ap, subst}
 use mathlib.Core.Logic.{_≢_}
-use mathlib.Core.Bool.{Bool, true, false, cond, true≢false, false≢true}
+use mathlib.Core.Bool.{Bool, true, false, cond, _&&_, true≢false, false≢true}
 use mathlib.Core.List.{List, [], _∷_, _++_, List·Memᴰ, List·Memᴰ·head, List·Memᴰ·tail}
-use Prim.Native.Nat.{ℕ, _*_}
-use lib.Dec.{eqb}
+use Prim.Native.Nat.{ℕ, _+_, _-_, _*_, _≤_}
+use native.Mathlib.Omega.{arith}
+use lib.Dec.{eqb, leb, ltb}
 use lib.ListN.{length}
-use borrow.Author.Tests.{eqb-true, eqb-false}
+use borrow.Author.Tests.{eqb-true, eqb-false, leb-true, ltb-true}
+use Rattle.timing.proofs.Truth.{and-true}
 use Rattle.timing.specs.declared.kinds.MaybeKind.{MaybeKind}
 use Rattle.timing.specs.declared.kinds.MaybeKind.the-variants.{Kind, NoKind}
 use Rattle.timing.specs.declared.rules.Command.{Command}
 use Rattle.timing.specs.Kinds.{kindOf}
 use Rattle.timing.specs.Earliest.{Settings, Ask}
 use Rattle.history.specs.Records.{Record, opening, command, takeBack}
-use Rattle.history.specs.Answers.{Line, _gives_, firstOf, roomOf, openLines, depthLines, roomLines, offerLines, Reply, plain, named, Verdict, refused, accepted, replyOf, openReply, offerReply, takeBackReply}
+use Rattle.history.specs.Answers.{Line, _gives_, firstOf, roomOf, placeLines, openLines, depthLines, roomLines, offerLines, Reply, plain, named, Status, earliestOn, earliestReply, statusOn, Verdict, refused, accepted, replyOf, openReply, offerReply, takeBackReply}
 use Rattle.history.specs.Struck.{Call, open-session, offer, take-back}
 use Rattle.session.specs.declared.state.Session.{Session}
 use Rattle.journal.specs.Bytes.{recordSize, bytesOf}
-use Rattle.journal.specs.Restore.{putAt, bytesAfter}
-use Rattle.checker.specs.Exact.{isClosed, openIn, offerIn, offerInCase, takeBackIn, takeBackInCase, stateAfter, Left, afterIn, earlyIn}
+use Rattle.session.specs.State.{freshState}
+use Rattle.journal.specs.Bytes.{recordSize}
+use Rattle.journal.specs.Restore.{putAt, bytesAfter, Part, noPart, partOf, stretchOf}
+use Rattle.checker.specs.Statements.{Told, RestoreTold}
+use Rattle.checker.specs.Exact.{earliestIn, earliestInCase, statusIn, statusInCase, stretchIn, stretchInCase, RestoredIn, tooLong, badAt, restored, restoredNumber, restoredAt, restoredState, restoreIn, isClosed, openIn, offerIn, offerInCase, takeBackIn, takeBackInCase, stateAfter, Left, afterIn, earlyIn}
 use Rattle.demands.specs.Outcomes.{Outcome}
-use Rattle.demands.specs.Plainly.{ownNumbers, ownCycle, Writes, Plainly}
+use Rattle.demands.specs.Plainly.{ownNumbers, ownCycle, Writes, Plainly, EarliestPlainly, StatusPlainly, StretchPlainly, RestorePlainly}
 
 -- a verdict that shows only what a call with these numbers and this cycle may show
 pub record Shows (own : List ℕ) (cycle : ℕ) (r : Reply) (taken : Bool) : Type 0 where
@@ -142,3 +147,59 @@ demand-one (open-session o) s next lent bytes reply out = shown (open-session o)
 demand-one (offer kind rank bank t) s next lent bytes reply out =
     shown (offer kind rank bank t) s next lent bytes reply (offerIn (roomOf (length lent)) s kind rank bank t) (offer-fair (roomOf (length lent)) s kind rank bank t) (out .exact)
 demand-one take-back s next lent bytes reply out = shown take-back s next lent bytes reply (takeBackIn (roomOf (length lent)) s) (take-back-fair (roomOf (length lent)) s) (out .exact)
+
+-- the questions
+asked-plain : (early : Ask) (n : ℕ) → List·Memᴰ n (1 ∷ 2 ∷ 3 ∷ 4 ∷ 0 ∷ []) → EarliestPlainly (earliestReply early n)
+asked-plain early n m = by (eqb n 0) refl
+  where
+    by : (z : Bool) → eqb n 0 ≡ z → EarliestPlainly (cond z (named 0 early) (plain n))
+    by true e = record { own = subst (λ (x : ℕ). List·Memᴰ x (1 ∷ 2 ∷ 3 ∷ 4 ∷ 0 ∷ [])) (eqb-true n 0 e) m; zeros = λ p. absurd (p refl) }
+    by false e = record { own = m; zeros = λ p. (refl, refl) }
+
+pub earliest-plain : (s : Session) (kind rank bank : ℕ) (reply : Reply) → Told (earliestIn s kind rank bank) (λ h. earliestOn h kind rank bank) s reply → EarliestPlainly reply
+unfolding earliestIn
+earliest-plain s kind rank bank reply told = subst EarliestPlainly (sym (told .exact)) (go (isClosed s) (kindOf kind))
+  where
+    go : (z : Bool) (m : MaybeKind) → EarliestPlainly (earliestInCase s z m rank bank)
+    go true m = record { own = List·Memᴰ·head refl; zeros = λ p. (refl, refl) }
+    go false NoKind = record { own = List·Memᴰ·tail (List·Memᴰ·head refl); zeros = λ p. (refl, refl) }
+    go false (Kind k) =
+        let c : Command = record { kind = k; rank = rank; bank = bank } in
+        let ls = placeLines (s .opening) c in
+        asked-plain (earlyIn s c) (firstOf ls) (List·Memᴰ·tail (List·Memᴰ·tail (first-among ls)))
+
+pub status-plain : (s : Session) (status : Status) → Told (statusIn s) (λ h. statusOn h) s status → StatusPlainly status
+unfolding statusIn
+status-plain s status told = subst StatusPlainly (sym (told .exact)) (go (isClosed s))
+  where
+    go : (z : Bool) → StatusPlainly (statusInCase s z)
+    go true = record { own = List·Memᴰ·head refl; zeros = λ p. refl }
+    go false = record { own = List·Memᴰ·tail (List·Memᴰ·head refl); zeros = λ p. absurd (p refl) }
+
+pub stretch-plain : (s : Session) (lent part : List ℕ) (place : Part) → Told (stretchIn s (length lent)) (λ h. stretchOf h (length lent)) s place
+    → Told (partOf (stretchIn s (length lent)) lent) (λ h. partOf (stretchOf h (length lent)) lent) s part → StretchPlainly lent place part
+unfolding stretchIn
+stretch-plain s lent part place told bytes =
+    record { inside = subst Inside (sym (told .exact)) (go (isClosed s)); itself = bytes .exact ∙ ap (λ (p : Part). partOf p lent) (sym (told .exact)) }
+  where
+    Inside : Part → Type 0
+    Inside p = p .start + p .size ≤ length lent
+
+    by : (z : Bool) → (leb (recordSize * s .records) (length lent) && ltb (s .number) (s .records)) ≡ z
+        → Inside (cond z (record { start = recordSize * s .number; size = recordSize * (s .records - s .number) }) noPart)
+    by true e = let w = and-true (leb (recordSize * s .records) (length lent)) (ltb (s .number) (s .records)) e in omega (arith, leb-true (recordSize * s .records) (length lent) (w .0), ltb-true (s .number) (s .records) (w .1))
+    by false e = omega arith
+
+    go : (z : Bool) → Inside (stretchInCase s z (length lent))
+    go true = omega arith
+    go false = by (leb (recordSize * s .records) (length lent) && ltb (s .number) (s .records)) refl
+
+-- a restore of any bytes
+pub restore-plain : (bytes : List ℕ) (number at : ℕ) (next : Session) → RestoreTold bytes number at next → RestorePlainly number at next
+unfolding freshState
+restore-plain bytes number at next told = rw (told .exact .answer, told .exact .beside, told .exact .state) (go (restoreIn bytes))
+  where
+    go : (v : RestoredIn) → RestorePlainly (restoredNumber v) (restoredAt v) (restoredState v)
+    go tooLong = record { own = List·Memᴰ·head refl; zeros = λ p. refl; refused = λ p. refl; no-session = λ p. refl }
+    go (badAt n) = record { own = List·Memᴰ·tail (List·Memᴰ·head refl); zeros = λ p. absurd (p refl); refused = λ p. refl; no-session = λ p. refl }
+    go (restored s) = record { own = List·Memᴰ·tail (List·Memᴰ·tail (List·Memᴰ·head refl)); zeros = λ p. refl; refused = λ p. absurd (p refl); no-session = λ p. absurd (p refl) }

@@ -5,6 +5,12 @@ use Prim.Native.Nat.{ℕ}
 use Rattle.session.specs.declared.state.Session.{Session}
 use Rattle.demands.specs.Outcomes.{Move, Answer, Does}
 
+-- two outcomes of one move are the same
+pub record Same (a a′ : Answer) (next next′ : Session) (b b′ : List ℕ) : Type 0 where
+  pub answer : a ≡ a′
+  pub state : next ≡ next′
+  pub bytes : b ≡ b′
+
 -- a move with the bytes lent to it; an answer with the bytes after it
 pub record Lent : Type 0 where
   pub move : Move

@@ -2,13 +2,15 @@
 use mathlib.Core.Path.{_≡_}
 use mathlib.Core.Logic.{_≢_}
 use mathlib.Core.List.{List, [], _∷_, List·Memᴰ}
-use Prim.Native.Nat.{ℕ, _*_}
+use Prim.Native.Nat.{ℕ, _+_, _*_, _≤_}
+use lib.ListN.{length}
 use Rattle.history.specs.Records.{Record}
-use Rattle.history.specs.Answers.{Reply}
+use Rattle.history.specs.Answers.{Reply, Status}
 use Rattle.history.specs.Struck.{Call, open-session, offer, take-back}
 use Rattle.session.specs.declared.state.Session.{Session}
+use Rattle.session.specs.State.{freshState}
 use Rattle.journal.specs.Bytes.{recordSize, bytesOf}
-use Rattle.journal.specs.Restore.{putAt}
+use Rattle.journal.specs.Restore.{putAt, Part, partOf}
 
 -- the numbers that document 01 gives each call, in its order, and 0
 unfoldable pub ownNumbers : Call → List ℕ
@@ -34,3 +36,24 @@ pub record Plainly (c : Call) (s : Session) (lent : List ℕ) (reply : Reply) (n
   pub zeros : reply .number ≢ 0 → reply .number ≢ 7 → (reply .cycle ≡ 0) × (reply .gap ≡ 0)
   pub accepted : reply .number ≡ 0 → (reply .cycle ≡ ownCycle c) × (reply .gap ≡ 0)
   pub writes : reply .number ≡ 0 → Writes s lent bytes
+
+-- the questions; they hand back no state and no bytes
+pub record EarliestPlainly (reply : Reply) : Type 0 where
+  pub own : List·Memᴰ (reply .number) (1 ∷ 2 ∷ 3 ∷ 4 ∷ 0 ∷ [])
+  pub zeros : reply .number ≢ 0 → (reply .cycle ≡ 0) × (reply .gap ≡ 0)
+
+pub record StatusPlainly (status : Status) : Type 0 where
+  pub own : List·Memᴰ (status .number) (1 ∷ 0 ∷ [])
+  pub zeros : status .number ≢ 0 → status ≡ record { number = 1; client = 0; opening = 0; survivors = 0; depth = 0; last = 0; records = 0 }
+
+-- the stretch is a part of the lent bytes
+pub record StretchPlainly (lent : List ℕ) (place : Part) (part : List ℕ) : Type 0 where
+  pub inside : place .start + place .size ≤ length lent
+  pub itself : part ≡ partOf place lent
+
+-- a refused restore hands back a state with no session; only 11 names a record
+pub record RestorePlainly (number at : ℕ) (next : Session) : Type 0 where
+  pub own : List·Memᴰ number (9 ∷ 11 ∷ 0 ∷ [])
+  pub zeros : number ≢ 11 → at ≡ 0
+  pub refused : number ≢ 0 → next ≡ freshState
+  pub no-session : number ≢ 0 → next .«is_open» ≡ 0
