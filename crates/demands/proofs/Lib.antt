@@ -5,3 +5,4 @@ pub mod MoveLaws
 pub mod WrittenLaws
 pub mod RanLaws
 pub mod AlikeLaws
+pub mod ListingLaws

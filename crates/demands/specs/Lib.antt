@@ -4,3 +4,4 @@ pub mod Offers
 pub mod Plainly
 pub mod Runs
 pub mod Alike
+pub mod Listings
