@@ -8,21 +8,24 @@ use native.Mathlib.Omega.{arith}
 use lib.Dec.{eqb, leb, ltb}
 use lib.ListN.{length}
 use borrow.Author.Tests.{eqb-true, eqb-false, eq-eqb, leb-false, leb-true, ltb-true, ltb-false}
-use Rattle.timing.specs.declared.kinds.MaybeKind.the-variants.{Kind}
+use Rattle.timing.specs.declared.kinds.MaybeKind.{MaybeKind}
+use Rattle.timing.specs.declared.kinds.MaybeKind.the-variants.{Kind, NoKind}
 use Rattle.timing.specs.declared.rules.Command.{Command}
 use Rattle.timing.specs.Kinds.{kindOf}
 use Rattle.timing.specs.Earliest.{Stamped, Standing, Ask, AsksFor, LaterThanLast, Legal, NamedGap, cycleAfter, floor, earliest}
 use Rattle.timing.proofs.Legal.{legal-from, named-gap}
-use Rattle.history.specs.Records.{History, session, standing}
-use Rattle.history.specs.Answers.{Line, _gives_, firstOf, roomOf, placeLines, stampLines, afterLines, roomLines, offerLines, offerReply, Reply, plain, named, Verdict, replyOf, offerOn}
-use Rattle.history.specs.Struck.{offer}
+use Rattle.history.specs.Records.{Record, opening, command, takeBack, History, Current, closed, session, standing}
+use Rattle.history.specs.Answers.{Line, _gives_, firstOf, roomOf, openLines, placeLines, stampLines, afterLines, depthLines, roomLines, offerLines, offerReply, earliestReply, Reply, plain, named, Verdict, refused, accepted, replyOf, offerCase, earliestCase, offerOn}
+use Rattle.history.specs.Struck.{open-session, offer, take-back, current, recordsIn}
 use Rattle.history.proofs.AnswerLaws.{first-on}
 use Rattle.session.specs.declared.state.Session.{Session}
 use Rattle.checker.specs.Rep.{Rep}
-use Rattle.demands.specs.Outcomes.{Outcome}
+use Rattle.demands.specs.Outcomes.{Outcome, Move, calls, asks-earliest, asks-status, asks-stretch, Answer, replied, stated, handed, Does}
+use Rattle.demands.specs.Runs.{Event, numberIn, lasting, Run, answerAt}
 use Rattle.demands.specs.Reached.{Reached}
-use Rattle.demands.specs.Offers.{Given, none, this, a-later, Ready, AsksMore, OfferMeans}
+use Rattle.demands.specs.Offers.{Given, none, this, a-later, kindLines, linesOf, Ready, AsksMore, OfferMeans}
 use Rattle.demands.proofs.ReachedLaws.{reached-stands}
+use Rattle.demands.proofs.RanLaws.{demand-three}
 
 -- every refusal number is given exactly if its line holds and none before it does
 pub given : (ls : List Line) (n : ℕ) → (firstOf ls ≡ n) ↔ Given ls n
@@ -38,6 +41,11 @@ given ls n = ((λ e. subst (Given ls) e (there ls)), back ls n)
     back ls n none = refl
     back ls n (this {n = m} {ls = ms} e) = ap (λ (z : Bool). cond z m (firstOf ms)) e
     back ls n (a-later {m = m} {ls = ms} e g) = ap (λ (z : Bool). cond z m (firstOf ms)) e ∙ back ms n g
+
+abbrev replyIn : Reply → Answer → Reply
+replyIn d (replied r) = r
+replyIn d (stated s) = d
+replyIn d (handed place part) = d
 
 -- the cycle is before the earliest exactly if a gap asks for more
 module _ (st : Standing) (c : Command) (t : ℕ) (after : floor st ≤ t) where
@@ -64,23 +72,23 @@ more-asked st c t w =
     let legal = legal-from st c (earliest st c .cycle) .1 (omega arith) in
     omega (arith, legal .gaps (w .gap) (w .cycle) (w .asks), w .more)
 
-module _ (room : ℕ) (h : History) (kind : ℕ) (c : Command) (t : ℕ) (st : Standing) (ready : Ready h kind c t st) where
+module _ (room count : ℕ) (now : Current) (kind : ℕ) (c : Command) (t : ℕ) (st : Standing) (ready : Ready now kind c t st) where
   -- what is left of the lines
   abbrev number : Bool → Bool → ℕ
   number early full = cond early 7 (cond full 9 0)
 
-  left : firstOf (offerLines (st .settings .opening) (floor st) (earliest st c) c t ++ roomLines room (length h)) ≡ number (ltb t (earliest st c .cycle)) (leb room (length h))
+  left : firstOf (offerLines (st .settings .opening) (floor st) (earliest st c) c t ++ roomLines room count) ≡ number (ltb t (earliest st c .cycle)) (leb room count)
   unfolding firstOf
   left =
-      first-on (placeLines (st .settings .opening) c ++ stampLines t) (afterLines (floor st) (earliest st c) t ++ roomLines room (length h))
+      first-on (placeLines (st .settings .opening) c ++ stampLines t) (afterLines (floor st) (earliest st c) t ++ roomLines room count)
       (eqb-false 3 0 refl, (eqb-false 4 0 refl, (eqb-false 5 0 refl, tt))) (ready .placed)
-      ∙ ap (λ (z : Bool). cond z 6 (number (ltb t (earliest st c .cycle)) (leb room (length h)))) (not-less (ltb t (floor st)) refl)
+      ∙ ap (λ (z : Bool). cond z 6 (number (ltb t (earliest st c .cycle)) (leb room count))) (not-less (ltb t (floor st)) refl)
     where
       not-less : (z : Bool) → ltb t (floor st) ≡ z → z ≡ false
       not-less true e = absurd (omega (arith, ltb-true t (floor st) e, ready .after))
       not-less false e = refl
 
-  means : (early full : Bool) → ltb t (earliest st c .cycle) ≡ early → leb room (length h) ≡ full → OfferMeans room h st c t (replyOf (offerReply (st .number) (earliest st c) c t (number early full)))
+  means : (early full : Bool) → ltb t (earliest st c .cycle) ≡ early → leb room count ≡ full → OfferMeans room count st c t (replyOf (offerReply (st .number) (earliest st c) c t (number early full)))
   means true full e f =
       let late = ltb-true t (earliest st c .cycle) e in
       let not-yet : Legal st c t → ⊥ = λ l. omega (arith, legal-from st c t .0 l, late) in
@@ -100,8 +108,8 @@ module _ (room : ℕ) (h : History) (kind : ℕ) (c : Command) (t : ℕ) (st : S
         legal = λ p. absurd (eqb-false 9 7 refl p);
         smallest = λ p u l. absurd (eqb-false 9 7 refl p);
         gap = λ p. absurd (eqb-false 9 7 refl p);
-        accepted = ((λ p. absurd (eqb-false 9 0 refl p)), (λ w. absurd (omega (arith, w .1, leb-true room (length h) f))));
-        full = ((λ p. (from, leb-true room (length h) f)), (λ w. refl));
+        accepted = ((λ p. absurd (eqb-false 9 0 refl p)), (λ w. absurd (omega (arith, w .1, leb-true room count f))));
+        full = ((λ p. (from, leb-true room count f)), (λ w. refl));
       }
   means false false e f =
       let from : Legal st c t = legal-from st c t .1 (omega (arith, ltb-false t (earliest st c .cycle) e)) in
@@ -111,26 +119,91 @@ module _ (room : ℕ) (h : History) (kind : ℕ) (c : Command) (t : ℕ) (st : S
         legal = λ p. absurd (eqb-false 0 7 refl p);
         smallest = λ p u l. absurd (eqb-false 0 7 refl p);
         gap = λ p. absurd (eqb-false 0 7 refl p);
-        accepted = ((λ p. (from, leb-false room (length h) f)), (λ w. refl));
-        full = ((λ p. absurd (eqb-false 0 9 refl p)), (λ w. absurd (omega (arith, w .1, leb-false room (length h) f))));
+        accepted = ((λ p. (from, leb-false room count f)), (λ w. refl));
+        full = ((λ p. absurd (eqb-false 0 9 refl p)), (λ w. absurd (omega (arith, w .1, leb-false room count f))));
       }
 
-  pub offer-means : OfferMeans room h st c t (replyOf (offerOn room h kind (c .rank) (c .bank) t))
-  unfolding offerOn
-  offer-means =
-      rw (ready .stands, ready .known, left) (means (ltb t (earliest st c .cycle)) (leb room (length h)) refl refl)
+  pub offer-means : OfferMeans room count st c t (replyOf (offerCase room count now (kindOf kind) (c .rank) (c .bank) t))
+  offer-means = rw (ready .stands, ready .known, left) (means (ltb t (earliest st c .cycle)) (leb room count) refl refl)
 
--- DEMAND 2, at the checker: from the fresh state, after any calls and restores
+  pub offer-rightly : (rank bank : ℕ) (reply : Reply) → c .rank ≡ rank → c .bank ≡ bank → reply ≡ replyOf (offerCase room count now (kindOf kind) rank bank t) → OfferMeans room count st c t reply
+  offer-rightly rank bank reply r b is =
+      subst (OfferMeans room count st c t)
+      (ap (λ (x : ℕ). replyOf (offerCase room count now (kindOf kind) x (c .bank) t)) r ∙ ap (λ (x : ℕ). replyOf (offerCase room count now (kindOf kind) rank x t)) b ∙ sym is)
+      offer-means
+
+-- DEMAND 2, at the checker: at every state that any calls and restores reach, with any lent bytes
 pub demand-two : {s next : Session} → Reached s → (kind rank bank t : ℕ) (lent bytes : List ℕ) (reply : Reply) → Outcome (offer kind rank bank t) s lent reply next bytes
-    → (h : History) × Rep s h × ((c : Command) (st : Standing) → c .rank ≡ rank → c .bank ≡ bank → Ready h kind c t st → OfferMeans (roomOf (length lent)) h st c t reply)
+    → (h : History) × Rep s h × ((c : Command) (st : Standing) → c .rank ≡ rank → c .bank ≡ bank → Ready (standing h) kind c t st → OfferMeans (roomOf (length lent)) (length h) st c t reply)
+unfolding offerOn
 demand-two before kind rank bank t lent bytes reply out =
-    let w = reached-stands before in (
-      w .0,
-      w .1,
-      λ c st r b ready.
-          subst (OfferMeans (roomOf (length lent)) (w .0) st c t)
-          (ap (λ (x : ℕ). replyOf (offerOn (roomOf (length lent)) (w .0) kind x (c .bank) t)) r
-          ∙ ap (λ (x : ℕ). replyOf (offerOn (roomOf (length lent)) (w .0) kind rank x t)) b
-          ∙ sym (out .answer (w .0) (w .1)))
-          (offer-means (roomOf (length lent)) (w .0) kind c t st ready),
-    )
+    let w = reached-stands before in
+    (w .0, w .1, λ c st r b ready. offer-rightly (roomOf (length lent)) (length (w .0)) (standing (w .0)) kind c t st ready rank bank reply r b (out .answer (w .0) (w .1)))
+
+-- and after any run, over what the strike-out leaves of its calls
+pub demand-two-run : {room : ℕ} {es : List Event} {s next : Session} {first j after : List ℕ} (kind rank bank t : ℕ) (reply : Reply)
+    → Run room es s first j → Does (calls (offer kind rank bank t)) s j (replied reply) next after
+    → (c : Command) (st : Standing) → c .rank ≡ rank → c .bank ≡ bank → Ready (current (lasting es)) kind c t st → OfferMeans room (recordsIn (lasting es)) st c t reply
+demand-two-run {room} {es} kind rank bank t reply run d c st r b ready =
+    offer-rightly room (recordsIn (lasting es)) (current (lasting es)) kind c t st ready rank bank reply r b (ap (replyIn reply) (demand-three run d))
+
+-- the number of every answer is that of its first line
+abbrev Numbers : ℕ → ℕ → Current → Move → List ℕ → Type 0
+Numbers room count now m j = numberIn (answerAt room count now m j) ≡ firstOf (linesOf room count now m)
+
+plain-number : (n : ℕ) (e : Record) (r : Reply) → r .number ≡ 0 → replyOf (cond (eqb n 0) (accepted r e) (refused (plain n))) .number ≡ n
+plain-number n e r zero = go (eqb n 0) refl
+  where
+    go : (z : Bool) → eqb n 0 ≡ z → replyOf (cond z (accepted r e) (refused (plain n))) .number ≡ n
+    go true q = zero ∙ sym (eqb-true n 0 q)
+    go false q = refl
+
+offered-number : (number : ℕ) (early : Ask) (c : Command) (t n : ℕ) → replyOf (offerReply number early c t n) .number ≡ n
+offered-number number early c t n = go (eqb n 0) (eqb n 7) refl refl
+  where
+    go : (z y : Bool) → eqb n 0 ≡ z → eqb n 7 ≡ y
+        → replyOf (cond z (accepted (record { number = 0; cycle = t; gap = 0 }) (command number c t)) (refused (cond y (named 7 early) (plain n)))) .number ≡ n
+    go true y p q = sym (eqb-true n 0 p)
+    go false true p q = sym (eqb-true n 7 q)
+    go false false p q = refl
+
+asked-number : (early : Ask) (n : ℕ) → earliestReply early n .number ≡ n
+asked-number early n = go (eqb n 0) refl
+  where
+    go : (z : Bool) → eqb n 0 ≡ z → cond z (named 0 early) (plain n) .number ≡ n
+    go true p = sym (eqb-true n 0 p)
+    go false p = refl
+
+numbered : (room count : ℕ) (now : Current) (m : Move) (j : List ℕ) → Numbers room count now m j
+unfolding linesOf firstOf
+numbered room count now (calls (open-session o)) j = plain-number (firstOf (openLines (o .opening) ++ roomLines room count)) (opening o) (plain 0) refl
+numbered room count closed (calls (offer kind rank bank t)) j = refl
+numbered room count (session st) (calls (offer kind rank bank t)) j = go (kindOf kind)
+  where
+    go : (k : MaybeKind) → replyOf (offerCase room count (session st) k rank bank t) .number
+        ≡ firstOf
+        (kindLines k
+        (λ k.
+        let c : Command = record { kind = k; rank = rank; bank = bank } in
+        offerLines (st .settings .opening) (floor st) (earliest st c) c t ++ roomLines room count))
+    go NoKind = refl
+    go (Kind k) = let c : Command = record { kind = k; rank = rank; bank = bank } in offered-number (st .number) (earliest st c) c t _
+numbered room count closed (calls take-back) j = refl
+numbered room count (session st) (calls take-back) j = plain-number (firstOf (depthLines (st .depth) ++ roomLines room count)) (takeBack (st .number)) (plain 0) refl
+numbered room count closed (asks-earliest kind rank bank) j = refl
+numbered room count (session st) (asks-earliest kind rank bank) j = go (kindOf kind)
+  where
+    go : (k : MaybeKind) → earliestCase (session st) k rank bank .number ≡ firstOf (kindLines k (λ k. placeLines (st .settings .opening) (record { kind = k; rank = rank; bank = bank })))
+    go NoKind = refl
+    go (Kind k) = asked-number (earliest st (record { kind = k; rank = rank; bank = bank })) _
+numbered room count closed asks-status j = refl
+numbered room count (session st) asks-status j = refl
+numbered room count now asks-stretch j = refl
+
+-- after any run a move's number is given exactly if its line holds and none before it does
+pub number-given : {room : ℕ} {es : List Event} {s next : Session} {first j after : List ℕ} {m : Move} {a : Answer}
+    → Run room es s first j → Does m s j a next after → (n : ℕ) → (numberIn a ≡ n) ↔ Given (linesOf room (recordsIn (lasting es)) (current (lasting es)) m) n
+number-given {room} {es} {j = j} {m = m} {a = a} run d n =
+    let is : numberIn a ≡ firstOf (linesOf room (recordsIn (lasting es)) (current (lasting es)) m) = ap numberIn (demand-three run d) ∙ numbered room (recordsIn (lasting es)) (current (lasting es)) m j in
+    let w = given (linesOf room (recordsIn (lasting es)) (current (lasting es)) m) n in
+    ((λ e. w .0 (sym is ∙ e)), (λ g. is ∙ w .1 g))

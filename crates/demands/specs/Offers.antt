@@ -1,16 +1,19 @@
--- Demand 2: what an offer's answer means, in the words of the rule.
+-- Demand 2: which line gives a move's number, and what an offer's answer means, in the words of the rule.
 use mathlib.Core.Path.{_≡_}
 use mathlib.Core.Logic.{_↔_, _≢_}
 use mathlib.Core.Bool.{Bool, true, false}
 use mathlib.Core.List.{List, [], _∷_, _++_}
 use Prim.Native.Nat.{ℕ, _≤_, _<_}
-use lib.ListN.{length}
-use Rattle.timing.specs.declared.kinds.MaybeKind.the-variants.{Kind}
+use Rattle.timing.specs.declared.kinds.CommandKind.{CommandKind}
+use Rattle.timing.specs.declared.kinds.MaybeKind.{MaybeKind}
+use Rattle.timing.specs.declared.kinds.MaybeKind.the-variants.{Kind, NoKind}
 use Rattle.timing.specs.declared.rules.Command.{Command}
 use Rattle.timing.specs.Kinds.{kindOf}
-use Rattle.timing.specs.Earliest.{Standing, AsksFor, Legal, NamedGap, floor}
-use Rattle.history.specs.Records.{History, session, standing}
-use Rattle.history.specs.Answers.{Line, _gives_, firstOf, placeLines, stampLines, Reply}
+use Rattle.timing.specs.Earliest.{Standing, AsksFor, Legal, NamedGap, floor, earliest}
+use Rattle.history.specs.Records.{Current, closed, session}
+use Rattle.history.specs.Answers.{Line, _gives_, firstOf, openLines, placeLines, stampLines, offerLines, depthLines, roomLines, Reply}
+use Rattle.history.specs.Struck.{open-session, offer, take-back}
+use Rattle.demands.specs.Outcomes.{Move, calls, asks-earliest, asks-status, asks-stretch}
 
 -- a number is given by the line that holds where none before it does; 0 where none holds
 pub data Given : List Line → ℕ → Type 0 where
@@ -18,9 +21,33 @@ pub data Given : List Line → ℕ → Type 0 where
   this : {test : Bool} {n : ℕ} {ls : List Line} → test ≡ true → Given ((test gives n) ∷ ls) n
   a-later : {test : Bool} {m n : ℕ} {ls : List Line} → test ≡ false → Given ls n → Given ((test gives m) ∷ ls) n
 
+-- every move's lines in document 01's order, by the room, the count of records and what stands
+abbrev pub kindLines : MaybeKind → (CommandKind → List Line) → List Line
+kindLines NoKind more = (true gives 2) ∷ []
+kindLines (Kind k) more = (false gives 2) ∷ more k
+
+abbrev pub openedLines : Current → (Standing → List Line) → List Line
+openedLines closed more = (true gives 1) ∷ []
+openedLines (session st) more = (false gives 1) ∷ more st
+
+unfoldable pub linesOf : ℕ → ℕ → Current → Move → List Line
+linesOf room count now (calls (open-session o)) = openLines (o .opening) ++ roomLines room count
+linesOf room count now (calls (offer kind rank bank t)) =
+    openedLines now
+    (λ st.
+    kindLines (kindOf kind)
+    (λ k.
+    let c : Command = record { kind = k; rank = rank; bank = bank } in
+    offerLines (st .settings .opening) (floor st) (earliest st c) c t ++ roomLines room count))
+linesOf room count now (calls take-back) = openedLines now (λ st. depthLines (st .depth) ++ roomLines room count)
+linesOf room count now (asks-earliest kind rank bank) =
+    openedLines now (λ st. kindLines (kindOf kind) (λ k. placeLines (st .settings .opening) (record { kind = k; rank = rank; bank = bank })))
+linesOf room count now asks-status = openedLines now (λ st. [])
+linesOf room count now asks-stretch = []
+
 -- lines 1 to 6 don't hold for this command at this cycle
-pub record Ready (h : History) (kind : ℕ) (c : Command) (t : ℕ) (st : Standing) : Type 0 where
-  pub stands : standing h ≡ session st
+pub record Ready (now : Current) (kind : ℕ) (c : Command) (t : ℕ) (st : Standing) : Type 0 where
+  pub stands : now ≡ session st
   pub known : kindOf kind ≡ Kind (c .kind)
   pub placed : firstOf (placeLines (st .settings .opening) c ++ stampLines t) ≡ 0
   pub after : floor st ≤ t
@@ -33,10 +60,10 @@ pub record AsksMore (st : Standing) (c : Command) (t : ℕ) : Type 0 where
   pub more : t < cycle
 
 -- with lines 1 to 6 passed
-pub record OfferMeans (room : ℕ) (h : History) (st : Standing) (c : Command) (t : ℕ) (reply : Reply) : Type 0 where
+pub record OfferMeans (room count : ℕ) (st : Standing) (c : Command) (t : ℕ) (reply : Reply) : Type 0 where
   pub too-early : (reply .number ≡ 7) ↔ AsksMore st c t
   pub legal : reply .number ≡ 7 → Legal st c (reply .cycle)
   pub smallest : reply .number ≡ 7 → (u : ℕ) → Legal st c u → reply .cycle ≤ u
   pub gap : reply .number ≡ 7 → NamedGap st c (record { cycle = reply .cycle; gap = reply .gap })
-  pub accepted : (reply .number ≡ 0) ↔ (Legal st c t × (length h < room))
-  pub full : (reply .number ≡ 9) ↔ (Legal st c t × (room ≤ length h))
+  pub accepted : (reply .number ≡ 0) ↔ (Legal st c t × (count < room))
+  pub full : (reply .number ≡ 9) ↔ (Legal st c t × (room ≤ count))
