@@ -6,3 +6,4 @@ pub mod WrittenLaws
 pub mod RanLaws
 pub mod AlikeLaws
 pub mod ListingLaws
+pub mod NamedLaws

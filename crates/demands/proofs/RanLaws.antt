@@ -253,8 +253,7 @@ goes-on room h s s′ first first′ j j′ k k′ ms xs xs′ last last′ fina
     ∙ ap (answerOn room h m) (sym (k′ .begins))
     ∙ sym told′ in
     let bytes : after ≡ bytesAfter j (length h) v = subst (λ (n : ℕ). after ≡ bytesAfter j (length h) (verdictOn n h m)) (k .room-is) (one .bytes) in
-    let bytes′ : after′ ≡ bytesAfter j′ (length h) v = subst (λ (n : ℕ). after′ ≡ bytesAfter j′ (length h) (verdictOn n h m)) (k′ .room-is) (other .bytes) in
-    (
+    let bytes′ : after′ ≡ bytesAfter j′ (length h) v = subst (λ (n : ℕ). after′ ≡ bytesAfter j′ (length h) (verdictOn n h m)) (k′ .room-is) (other .bytes) in (
       ap (λ (x : Answer). x ∷ as₁) same ∙ ap (λ (xs : List Answer). a′ ∷ xs) (rest .0),
       record {
         puts = putOf (length h) v (rest .1 .puts);

@@ -1,0 +1,92 @@
+-- What the statements allow on the named runs: one list of answers each.
+use mathlib.Core.Path.{_≡_, refl, sym, _∙_, ap, subst}
+use mathlib.Core.Logic.{_≢_}
+use mathlib.Core.List.{List, [], _∷_, _++_}
+use Prim.Native.Nat.{ℕ, _*_}
+use native.Mathlib.Omega.{arith}
+use lib.ListN.{length, getD}
+use Rattle.timing.specs.Rules.{rules, covers, matching}
+use Rattle.timing.specs.Earliest.{reach, floor, pairAsks, acts, fourAsks, asks, latest, earliest}
+use Rattle.history.specs.Records.{opening, History, standing}
+use Rattle.history.specs.Answers.{roomOf, Verdict, refused, accepted, nextOf, Reply, Status, firstOf, fits, follows, openOn, offerOn, earliestOn, takeBackOn, statusOn}
+use Rattle.history.specs.Struck.{open-session}
+use Rattle.session.specs.declared.state.Session.{Session}
+use Rattle.session.specs.State.{freshState}
+use Rattle.journal.specs.Bytes.{le, gapBytes, bytesOf, value, gapsFrom, sameBytes, recordIn}
+use Rattle.journal.specs.Restore.{written, pieces, bytesAfter, Restored, restored, restoreNumber, historyOf, replay, restoreOf}
+use Rattle.checker.specs.Rep.{Rep}
+use Rattle.checker.specs.Statements.{RestoreTold}
+use Rattle.checker.proofs.KeepsLaws.{fresh-rep}
+use Rattle.demands.specs.Outcomes.{Outcome, Move, asks-status, Answer, replied, stated, handed, Does}
+use Rattle.demands.specs.Runs.{Plays, ends, plays}
+use Rattle.demands.specs.Named.{blank, client7, client9, shortMoves, shortAnswers, windowMoves, windowAnswers, twoOpenings}
+use Rattle.demands.proofs.MoveLaws.{answerOn, verdictOn, does-on}
+use Rattle.demands.proofs.RanLaws.{Holding, does-holds}
+
+-- the answers of moves on a history
+unfoldable answersOn : ℕ → History → List ℕ → List Move → List Answer
+answersOn room h j [] = []
+answersOn room h j (m ∷ ms) = answerOn room h m j ∷ answersOn room (nextOf h (verdictOn room h m)) (bytesAfter j (length h) (verdictOn room h m)) ms
+
+played : (room : ℕ) (h : History) {s last : Session} {first j after : List ℕ} {ms : List Move} {xs : List Answer} → Holding room h s first j → Plays s j ms xs last after → xs ≡ answersOn room h j ms
+unfolding answersOn
+played room h k ends = refl
+played room h {j = j} {ms = ms} k (plays {after = after} {m = m} {ms = more} {xs = xs} d p) =
+    let w = does-on d h (k .rep) in
+    let v = verdictOn room h m in
+    let answer = w .answer ∙ ap (λ (n : ℕ). answerOn n h m j) (k .room-is) in
+    let bytes : after ≡ bytesAfter j (length h) v = subst (λ (n : ℕ). after ≡ bytesAfter j (length h) (verdictOn n h m)) (k .room-is) (w .bytes) in
+    let rest = played room (nextOf h v) (does-holds room h k d) p in
+    ap (λ (x : Answer). x ∷ xs) answer
+    ∙ ap (λ (ys : List Answer). answerOn room h m j ∷ ys) (rest ∙ ap (λ (b : List ℕ). answersOn room (nextOf h v) b more) bytes)
+
+from-blank : {last : Session} {after : List ℕ} {ms : List Move} {xs : List Answer} → Plays freshState blank ms xs last after → xs ≡ answersOn 10 [] blank ms
+unfolding written
+from-blank p = played 10 [] (record { rep = fresh-rep; room-is = refl; begins = refl }) p
+
+-- A checker that refuses everything, gives one earliest cycle always, is right for the first command only, or makes up a survivor count or a
+-- depth gives other answers than these
+pub short-run : {last : Session} {after : List ℕ} {xs : List Answer} → Plays freshState blank shortMoves xs last after → xs ≡ shortAnswers
+unfolding rules covers matching reach floor pairAsks acts fourAsks asks latest earliest standing firstOf openOn offerOn earliestOn takeBackOn statusOn answersOn shortMoves shortAnswers le gapBytes bytesOf
+short-run p = from-blank p ∙ computed
+  where
+    computed : answersOn 10 [] blank shortMoves ≡ shortAnswers
+    computed = refl
+
+-- one that doesn't bring back the fourth activate, too
+pub window-run : {last : Session} {after : List ℕ} {xs : List Answer} → Plays freshState blank windowMoves xs last after → xs ≡ windowAnswers
+unfolding rules covers matching reach floor pairAsks acts fourAsks asks latest earliest standing firstOf openOn offerOn earliestOn takeBackOn statusOn answersOn windowMoves windowAnswers le gapBytes bytesOf
+window-run p = from-blank p ∙ computed
+  where
+    computed : answersOn 10 [] blank windowMoves ≡ windowAnswers
+    computed = refl
+
+-- one that does nothing leaves byte 0 as it is
+pub something-done : {next : Session} {after : List ℕ} {reply : Reply} → Outcome (open-session client7) freshState blank reply next after → after ≢ blank
+unfolding firstOf openOn le gapBytes bytesOf
+something-done {after = after} out same =
+    let first : getD after 0 0 ≡ 1 = ap (λ (b : List ℕ). getD b 0 0) (out .written [] fresh-rep) ∙ computed in
+    absurd (omega (arith, first, ap (λ (b : List ℕ). getD b 0 0) same))
+  where
+    computed : getD (bytesAfter blank 0 (openOn (roomOf (length blank)) [] client7)) 0 0 ≡ 1
+    computed = refl
+
+-- a restore that always returns the fresh state, or reads the first opening
+restored-both : restoreOf twoOpenings ≡ restored (opening client9 ∷ opening client7 ∷ [])
+unfolding firstOf fits follows standing le gapBytes bytesOf value gapsFrom sameBytes recordIn written pieces replay restoreOf twoOpenings
+restored-both = refl
+
+abbrev client-of : Answer → ℕ
+client-of (stated s) = s .client
+client-of (replied r) = 0
+client-of (handed place part) = 0
+
+pub last-opening : {number at : ℕ} {next : Session} → RestoreTold twoOpenings number at next → (number ≡ 0) × (next ≢ freshState)
+    × ((lent after : List ℕ) (status : Status) (last : Session) → Does asks-status next lent (stated status) last after → status .client ≡ 9)
+unfolding statusOn standing freshState
+last-opening {next = next} told =
+    let rep : Rep next (opening client9 ∷ opening client7 ∷ []) = subst (λ (r : Restored). Rep next (historyOf r)) restored-both (told .state) in (
+      told .answer ∙ ap restoreNumber restored-both,
+      (λ fresh. absurd (omega (arith, rep .records, ap (λ (s : Session). s .records) fresh))),
+      λ lent after status last d. ap client-of (does-on d (opening client9 ∷ opening client7 ∷ []) rep .answer),
+    )

@@ -1,0 +1,84 @@
+-- Named runs from the fresh state, and the answers that they must get: where a lazy program is caught.
+use mathlib.Core.List.{List, [], _∷_, _++_}
+use Prim.Native.Nat.{ℕ}
+use Rattle.timing.specs.Earliest.{Settings}
+use Rattle.history.specs.Records.{opening}
+use Rattle.history.specs.Answers.{Reply, Status}
+use Rattle.history.specs.Cases.{settings, gapsA, changed, gaps, reply}
+use Rattle.history.specs.Struck.{open-session, offer, take-back}
+use Rattle.journal.specs.Bytes.{zeros, bytesOf}
+use Rattle.demands.specs.Outcomes.{Move, calls, asks-earliest, asks-status, Answer, replied, stated}
+
+-- room for ten records
+abbrev pub blank : List ℕ
+blank = zeros 640
+
+-- settings A of client 7, with tFAW 40; and client 9's
+abbrev pub client7 : Settings
+client7 = settings 4 0 (changed 20 40 gapsA)
+
+abbrev pub client9 : Settings
+client9 = record { opening = record { ratio = 1; ranks = 2; mode = 1; client = 9 }; gaps = gaps gapsA }
+
+-- one ACT of bank 0, and what may follow it
+unfoldable pub shortMoves : List Move
+shortMoves =
+    calls (open-session client7) ∷
+    asks-earliest 1 0 0 ∷
+    calls (offer 1 0 0 0) ∷
+    asks-earliest 1 0 0 ∷
+    calls (offer 2 0 0 4) ∷
+    calls (offer 2 0 0 5) ∷
+    asks-status ∷
+    calls take-back ∷
+    asks-status ∷
+    []
+
+abbrev pub status : ℕ → ℕ → ℕ → ℕ → Answer
+status survivors depth last records = stated (record { number = 0; client = 7; opening = 0; survivors = survivors; depth = depth; last = last; records = records })
+
+unfoldable pub shortAnswers : List Answer
+shortAnswers =
+    replied (reply 0 0 0) ∷
+    replied (reply 0 0 0) ∷
+    replied (reply 0 0 0) ∷
+    replied (reply 0 15 1) ∷
+    replied (reply 7 5 3) ∷
+    replied (reply 0 5 0) ∷
+    status 2 2 5 3 ∷
+    replied (reply 0 0 0) ∷
+    status 1 1 0 4 ∷
+    []
+
+-- five ACTs: the fifth pushes the first out of the window, and is taken back
+unfoldable pub windowMoves : List Move
+windowMoves =
+    calls (open-session client7) ∷
+    calls (offer 1 0 0 0) ∷
+    calls (offer 1 0 1 2) ∷
+    calls (offer 1 0 2 4) ∷
+    calls (offer 1 0 3 6) ∷
+    asks-earliest 1 0 4 ∷
+    calls (offer 1 0 4 10) ∷
+    asks-earliest 1 0 5 ∷
+    calls take-back ∷
+    asks-earliest 1 0 4 ∷
+    []
+
+unfoldable pub windowAnswers : List Answer
+windowAnswers =
+    replied (reply 0 0 0) ∷
+    replied (reply 0 0 0) ∷
+    replied (reply 0 2 0) ∷
+    replied (reply 0 4 0) ∷
+    replied (reply 0 6 0) ∷
+    replied (reply 0 10 20) ∷
+    replied (reply 0 10 0) ∷
+    replied (reply 0 12 2) ∷
+    replied (reply 0 0 0) ∷
+    replied (reply 0 10 20) ∷
+    []
+
+-- the journal of two openings, client 7's and then client 9's
+unfoldable pub twoOpenings : List ℕ
+twoOpenings = bytesOf (opening client7) ++ bytesOf (opening client9)
