@@ -7,3 +7,4 @@ pub mod RanLaws
 pub mod AlikeLaws
 pub mod ListingLaws
 pub mod NamedLaws
+pub mod OutcomeLaws
