@@ -16,6 +16,7 @@ use Rattle.history.proofs.AnswerLaws.{Passed, call-passed}
 use Rattle.history.proofs.StandingLaws.{Below, number-below}
 use Rattle.history.proofs.CurrentLaws.{told-kept, told-current}
 use Rattle.session.specs.declared.state.Session.{Session}
+use Rattle.session.specs.State.{freshState}
 use Rattle.journal.specs.Bytes.{recordSize, bytesOf}
 use Rattle.journal.specs.Restore.{written, putAt, bytesAfter, Restored, restored, restoreNumber, restoreAt, historyOf, restoreOf, Part, noPart, partOf, stretchCase, stretchOf}
 use Rattle.checker.specs.Rep.{AllSized, Rep}
@@ -304,3 +305,34 @@ cut {room} {es} {s} {last} {next} {first} {j} {j′} {after} {ms} {xs} {k} {numb
     let restored-holds = cut-holds room (g .records) last next first j′ after k (g .holding) low same number at told room-is in
     let back : older (k / 64) (g .records) ≡ h = ap (λ (n : ℕ). older n (g .records)) here ∙ g .on in
     (numbers .0, numbers .1, goes-on room h next s after first after j (subst (λ (x : History). Holding room x next after after) back restored-holds) (w .holding))
+
+-- two runs whose accepted calls are the same go on alike, whatever failed, was refused or was asked in either
+pub same-calls : {room : ℕ} {es es′ : List Event} {s s′ : Session} {first first′ j j′ : List ℕ}
+    → Run room es s first j → Run room es′ s′ first′ j′ → unrefused (lasting es) ≡ unrefused (lasting es′) → GoesOnAs s j s′ j′
+same-calls {room} {es} {es′} {s} {s′} {first} {first′} {j} {j′} run run′ same =
+    let w = came run in
+    let w′ = came run′ in
+    let one : w′ .records ≡ w .records = told-kept (w′ .told) .records ∙ ap recordsOf (sym same) ∙ sym (told-kept (w .told) .records) in
+    goes-on room (w .records) s s′ first first′ j j′ (w .holding) (subst (λ (h : History). Holding room h s′ first′ j′) one (w′ .holding))
+
+none-left : (ps : List Answered) → unrefused (rightAfter 0 ps) ≡ []
+unfolding rightAfter unrefused
+none-left [] = refl
+none-left (a ∷ ps) = go (leb (recordsIn (a ∷ ps)) 0) refl (none-left ps)
+  where
+    empty : (cs : List Call) → length cs ≤ 0 → cs ≡ []
+    empty [] l = refl
+    empty (c ∷ cs) l = absurd (omega arith)
+
+    go : (t : Bool) → leb (recordsIn (a ∷ ps)) 0 ≡ t → unrefused (rightAfter 0 ps) ≡ [] → unrefused (cond t (a ∷ ps) (rightAfter 0 ps)) ≡ []
+    go true e on = empty (unrefused (a ∷ ps)) (leb-true (recordsIn (a ∷ ps)) 0 e)
+    go false e on = on
+
+-- where no whole record is left, the restored state goes on as a fresh one
+pub cut-fresh : {room : ℕ} {es : List Event} {s next : Session} {first j after blank : List ℕ} {k number at : ℕ}
+    → Run room es s first j → k ≤ 64 * s .records → k < 64 → roomOf (length after) ≡ room → take k after ≡ take k j → RestoreTold (take k after) number at next
+    → roomOf (length blank) ≡ room → GoesOnAs next after freshState blank
+unfolding lasting unrefused
+cut-fresh {es = es} {after = after} {blank = blank} {k = k} {number = number} {at = at} run l short room-is same told blank-room =
+    let none : k / 64 ≡ 0 = omega arith in
+    same-calls (fails run k l after room-is same number at told) (starts blank blank-room) (ap (λ (n : ℕ). unrefused (rightAfter n (lasting es))) none ∙ none-left (lasting es))
