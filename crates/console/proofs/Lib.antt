@@ -1,1 +1,4 @@
+pub mod PlaceLaws
+pub mod RequestLaws
 pub mod SliceLaws
+pub mod WordLaws
