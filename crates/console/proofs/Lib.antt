@@ -1,1 +1,7 @@
+pub mod OutputLaws
+pub mod PlaceLaws
+pub mod RequestLaws
+pub mod RespondLaws
+pub mod SayLaws
 pub mod SliceLaws
+pub mod WordLaws

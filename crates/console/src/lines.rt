@@ -1,7 +1,9 @@
 // Lines in what was read: input comes in pieces, and a piece may end anywhere in a line.
 ghost use mathlib.Core.Path.{_≡_};
 ghost use lib.ListN.{length};
-ghost use Prim.Native.Nat.{_≤_};
+ghost use Prim.Native.Nat.{min};
+ghost use Rattle.journal.specs.Restore.{putAt};
+ghost use Rattle.console.specs.Output.{lineEnd, underWay};
 
 const NEWLINE: u8 = 10;
 
@@ -10,7 +12,7 @@ const MAX_KEPT: usize = 4097;
 
 // The place of the next newline, or the end of the bytes.
 pub fn line_end(bytes: &[u8], from: usize) -> usize
-    ensures { λ r. ⌜ (r ≤ length (now (bytes .entry))) × (from ≤ length (now (bytes .entry)) → from ≤ r) ⌝ }
+    ensures { λ r. ⌜ r ≡ lineEnd (now (bytes .entry)) from ⌝ }
 {
     let mut i = from;
     while i < bytes.len() {
@@ -24,7 +26,7 @@ pub fn line_end(bytes: &[u8], from: usize) -> usize
 
 // The line under way, from a place to an end, goes to the front; how much of it is kept.
 pub fn keep(bytes: &mut [u8], from: usize, end: usize) -> usize
-    ensures { λ r. ⌜ (r ≤ 4097) × (length (now (bytes .exit)) ≡ length (now (bytes .entry))) ⌝ }
+    ensures { λ r. ⌜ (r ≡ length (underWay (now (bytes .entry)) from end)) × (now (bytes .exit) ≡ putAt (now (bytes .entry)) 0 (underWay (now (bytes .entry)) from end)) ⌝ }
 {
     if end <= from {
         return 0;
@@ -40,7 +42,7 @@ pub fn keep(bytes: &mut [u8], from: usize, end: usize) -> usize
 }
 
 fn kept(count: usize) -> usize
-    ensures { λ r. ⌜ (r ≤ count) × (r ≤ 4097) ⌝ }
+    ensures { λ r. ⌜ r ≡ min count 4097 ⌝ }
 {
     if count < MAX_KEPT {
         return count;

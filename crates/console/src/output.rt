@@ -1,24 +1,25 @@
 // Answers gathered in a buffer.
-ghost use lib.ListN.{length};
-ghost use Prim.Native.Nat.{_≤_};
+ghost use mathlib.Core.Path.{_≡_};
+ghost use mathlib.Core.List.{[], _∷_};
+ghost use Prim.Native.Nat.{_<_, min};
+ghost use Rattle.text.specs.Lines.{lineSize, shown};
+ghost use Rattle.console.specs.Output.{Put, hexDigit, hexText};
 use text::lines::Line;
 
-fn wide(x: u8) -> usize {
-    x as usize
-}
-
 // The digit of a number below 16.
-fn hex_digit(n: u8) -> u8 {
+fn hex_digit(n: u8) -> u8
+    requires { ⌜ n < 16 ⌝ }
+    ensures { λ r. ⌜ r ≡ hexDigit n ⌝ }
+{
     if n < 10 {
         return 48 + n;
     }
-    if n < 16 {
-        return 87 + n;
-    }
-    63
+    87 + n
 }
 
-pub fn put_byte(out: &mut [u8], at: usize, byte: u8) -> usize {
+pub fn put_byte(out: &mut [u8], at: usize, byte: u8) -> usize
+    ensures { λ r. ⌜ Put (byte ∷ []) at (now (out .entry)) (now (out .exit)) r ⌝ }
+{
     if out.len() <= at {
         return at;
     }
@@ -26,12 +27,21 @@ pub fn put_byte(out: &mut [u8], at: usize, byte: u8) -> usize {
     at + 1
 }
 
-pub fn put_line(out: &mut [u8], at: usize, line: Line) -> usize {
-    let bytes = line.bytes;
-    let len = line.len;
-    if 128 < len {
-        return at;
+// How many bytes of a line are shown.
+fn shown_size(len: usize) -> usize
+    ensures { λ r. ⌜ r ≡ min len lineSize ⌝ }
+{
+    if len < 128 {
+        return len;
     }
+    128
+}
+
+pub fn put_line(out: &mut [u8], at: usize, line: Line) -> usize
+    ensures { λ r. ⌜ Put (shown line) at (now (out .entry)) (now (out .exit)) r ⌝ }
+{
+    let bytes = line.bytes;
+    let len = shown_size(line.len);
     if out.len() < len {
         return at;
     }
@@ -45,7 +55,9 @@ pub fn put_line(out: &mut [u8], at: usize, line: Line) -> usize {
 }
 
 // Bytes as lower-case hexadecimal.
-pub fn put_hex(out: &mut [u8], at: usize, bytes: &[u8]) -> usize {
+pub fn put_hex(out: &mut [u8], at: usize, bytes: &[u8]) -> usize
+    ensures { λ r. ⌜ Put (hexText (now (bytes .entry))) at (now (out .entry)) (now (out .exit)) r ⌝ }
+{
     if out.len() < at {
         return at;
     }

@@ -1,5 +1,12 @@
 // What a line asks.
+ghost use mathlib.Core.Path.{_≡_};
+ghost use mathlib.Core.Bool.{true};
+ghost use mathlib.Core.List.{map};
+ghost use lib.ListN.{drop};
+ghost use Rattle.console.specs.Words.{words, numbersOf};
+ghost use Rattle.console.specs.Requests.{kindNumber, kindedOf, ifGood, offerForm, askForm, lendForm, restoreForm, pokeForm, bytesForm, requestOf, gap, withoutGaps, allAtMost, openForm, askedBy, asked};
 use crate::words::Number;
+use crate::words::Numbers;
 use crate::words::next_word;
 use crate::words::number_of;
 use crate::words::numbers_from;
@@ -43,19 +50,10 @@ pub struct Parsed {
     pub gaps: [DramCycles; 20],
 }
 
-// The first word of a line.
-enum Verb {
-    Open,
-    Offer,
-    Ask,
-    Back,
-    Status,
-    Stretch,
-    Lend,
-    Restore,
-    Poke,
-    Bytes,
-    Unknown,
+// A kind, and the numbers behind it.
+struct Kinded {
+    kind: Number,
+    numbers: Numbers,
 }
 
 const MAX_LINE: usize = 4096;
@@ -64,7 +62,13 @@ const RETURN: u8 = 13;
 
 const COMMENT: u8 = 35;
 
-fn without_gaps(request: Request) -> Parsed {
+const MAX_CLIENT: u64 = 4294967295;
+
+const MAX_GAP: u64 = 65535;
+
+fn without_gaps(request: Request) -> Parsed
+    ensures { λ r. ⌜ r ≡ withoutGaps request ⌝ }
+{
     Parsed {
         request,
         gaps: [DramCycles(0); 20],
@@ -72,7 +76,9 @@ fn without_gaps(request: Request) -> Parsed {
 }
 
 // A kind as its name in capitals or as a number.
-fn kind_number(word: &[u8]) -> Number {
+fn kind_number(word: &[u8]) -> Number
+    ensures { λ r. ⌜ r ≡ kindNumber (now (word .entry)) ⌝ }
+{
     if same(word, b"ACT") {
         return Number::Value(CommandKind::ACT);
     }
@@ -97,56 +103,150 @@ fn kind_number(word: &[u8]) -> Number {
     number_of(word)
 }
 
-fn verb_of(word: &[u8]) -> Verb {
-    if same(word, b"offer") {
-        return Verb::Offer;
-    }
-    if same(word, b"ask") {
-        return Verb::Ask;
-    }
-    if same(word, b"back") {
-        return Verb::Back;
-    }
-    if same(word, b"open") {
-        return Verb::Open;
-    }
-    if same(word, b"status") {
-        return Verb::Status;
-    }
-    if same(word, b"stretch") {
-        return Verb::Stretch;
-    }
-    if same(word, b"lend") {
-        return Verb::Lend;
-    }
-    if same(word, b"restore") {
-        return Verb::Restore;
-    }
-    if same(word, b"poke") {
-        return Verb::Poke;
-    }
-    if same(word, b"bytes") {
-        return Verb::Bytes;
-    }
-    Verb::Unknown
+fn kinded_from(line: &[u8], from: usize, count: usize) -> Kinded
+    ensures { λ r. ⌜ r ≡ kindedOf count (words (drop from (now (line .entry)))) ⌝ }
+{
+    let word = next_word(line, from);
+    let start = word.start;
+    let end = word.end;
+    let kind = kind_number(&line[start..end]);
+    let numbers = numbers_from(line, end, count);
+    Kinded { kind, numbers }
 }
 
-// The gaps behind the four numbers of an opening; a gap too large for its place is told by `gaps_fit`.
-fn gaps_of(values: [u64; 24]) -> [DramCycles; 20] {
+fn offer_form(read: Kinded) -> Request
+    ensures { λ r. ⌜ r ≡ offerForm read ⌝ }
+{
+    let kind = read.kind;
+    let numbers = read.numbers;
+    let Number::Value(code) = kind else {
+        return Request::Malformed;
+    };
+    if !numbers.good {
+        return Request::Malformed;
+    }
+    Request::Offer {
+        kind: code,
+        rank: numbers.values[0],
+        bank: numbers.values[1],
+        cycle: numbers.values[2],
+    }
+}
+
+fn ask_form(read: Kinded) -> Request
+    ensures { λ r. ⌜ r ≡ askForm read ⌝ }
+{
+    let kind = read.kind;
+    let numbers = read.numbers;
+    let Number::Value(code) = kind else {
+        return Request::Malformed;
+    };
+    if !numbers.good {
+        return Request::Malformed;
+    }
+    Request::Ask {
+        kind: code,
+        rank: numbers.values[0],
+        bank: numbers.values[1],
+    }
+}
+
+// A request of one word is malformed if more words follow.
+fn if_good(read: Numbers, request: Request) -> Request
+    ensures { λ r. ⌜ r ≡ ifGood read request ⌝ }
+{
+    if !read.good {
+        return Request::Malformed;
+    }
+    request
+}
+
+fn lend_form(read: Numbers) -> Request
+    ensures { λ r. ⌜ r ≡ lendForm read ⌝ }
+{
+    if_good(read, Request::Lend(read.values[0]))
+}
+
+fn restore_form(read: Numbers) -> Request
+    ensures { λ r. ⌜ r ≡ restoreForm read ⌝ }
+{
+    if_good(read, Request::Restore(read.values[0]))
+}
+
+fn poke_form(read: Numbers) -> Request
+    ensures { λ r. ⌜ r ≡ pokeForm read ⌝ }
+{
+    if !read.good {
+        return Request::Malformed;
+    }
+    let values = read.values;
+    if 255 < values[1] {
+        return Request::Malformed;
+    }
+    Request::Poke(values[0], values[1] as u8)
+}
+
+fn bytes_form(read: Numbers) -> Request
+    ensures { λ r. ⌜ r ≡ bytesForm read ⌝ }
+{
+    if_good(read, Request::Bytes(read.values[0], read.values[1]))
+}
+
+// What the words behind the first one make of it.
+fn request_of(verb: &[u8], line: &[u8], from: usize) -> Request
+    ensures { λ r. ⌜ r ≡ requestOf (now (verb .entry)) (words (drop from (now (line .entry)))) ⌝ }
+{
+    if same(verb, b"offer") {
+        return offer_form(kinded_from(line, from, 3));
+    }
+    if same(verb, b"ask") {
+        return ask_form(kinded_from(line, from, 2));
+    }
+    if same(verb, b"back") {
+        return if_good(numbers_from(line, from, 0), Request::Back);
+    }
+    if same(verb, b"status") {
+        return if_good(numbers_from(line, from, 0), Request::Status);
+    }
+    if same(verb, b"stretch") {
+        return if_good(numbers_from(line, from, 0), Request::Stretch);
+    }
+    if same(verb, b"lend") {
+        return lend_form(numbers_from(line, from, 1));
+    }
+    if same(verb, b"restore") {
+        return restore_form(numbers_from(line, from, 1));
+    }
+    if same(verb, b"poke") {
+        return poke_form(numbers_from(line, from, 2));
+    }
+    if same(verb, b"bytes") {
+        return bytes_form(numbers_from(line, from, 2));
+    }
+    Request::Malformed
+}
+
+// The gaps behind the four numbers of an opening.
+fn gaps_of(values: [u64; 24]) -> [DramCycles; 20]
+    requires { ⌜ allAtMost 65535 (drop 4 values) ≡ true ⌝ }
+    ensures { λ r. ⌜ r ≡ map gap (drop 4 values) ⌝ }
+{
     let mut gaps = [DramCycles(0); 20];
     let mut i = 0;
     while i < 20 {
-        let gap = DramCycles((values[4 + i] % 65536) as u16);
+        let gap = DramCycles(values[4 + i] as u16);
         gaps[i] = gap;
         i += 1;
     }
     gaps
 }
 
-fn gaps_fit(values: [u64; 24]) -> bool {
+fn gaps_fit(values: [u64; 24]) -> bool
+    ensures { λ r. ⌜ r ≡ allAtMost 65535 (drop 4 values) ⌝ }
+{
     let mut i = 4;
     while i < 24 {
-        if 65535 < values[i] {
+        if MAX_GAP < values[i] {
             return false;
         }
         i += 1;
@@ -154,13 +254,14 @@ fn gaps_fit(values: [u64; 24]) -> bool {
     true
 }
 
-fn parse_open(line: &[u8], from: usize) -> Parsed {
-    let read = numbers_from(line, from, 24);
+fn open_form(read: Numbers) -> Parsed
+    ensures { λ r. ⌜ r ≡ openForm read ⌝ }
+{
+    let values = read.values;
     if !read.good {
         return without_gaps(Request::Malformed);
     }
-    let values = read.values;
-    if 4294967295 < values[3] {
+    if MAX_CLIENT < values[3] {
         return without_gaps(Request::Malformed);
     }
     if !gaps_fit(values) {
@@ -176,112 +277,9 @@ fn parse_open(line: &[u8], from: usize) -> Parsed {
     Parsed { request, gaps }
 }
 
-fn parse_offer(line: &[u8], from: usize) -> Request {
-    let word = next_word(line, from);
-    let start = word.start;
-    let end = word.end;
-    let Number::Value(code) = kind_number(&line[start..end]) else {
-        return Request::Malformed;
-    };
-    let read = numbers_from(line, end, 3);
-    if !read.good {
-        return Request::Malformed;
-    }
-    let values = read.values;
-    Request::Offer {
-        kind: code,
-        rank: values[0],
-        bank: values[1],
-        cycle: values[2],
-    }
-}
-
-fn parse_ask(line: &[u8], from: usize) -> Request {
-    let word = next_word(line, from);
-    let start = word.start;
-    let end = word.end;
-    let Number::Value(code) = kind_number(&line[start..end]) else {
-        return Request::Malformed;
-    };
-    let read = numbers_from(line, end, 2);
-    if !read.good {
-        return Request::Malformed;
-    }
-    let values = read.values;
-    Request::Ask {
-        kind: code,
-        rank: values[0],
-        bank: values[1],
-    }
-}
-
-// A request of one word is malformed if more words follow.
-fn alone(line: &[u8], from: usize, request: Request) -> Request {
-    let read = numbers_from(line, from, 0);
-    if !read.good {
-        return Request::Malformed;
-    }
-    request
-}
-
-fn parse_lend(line: &[u8], from: usize) -> Request {
-    let read = numbers_from(line, from, 1);
-    if !read.good {
-        return Request::Malformed;
-    }
-    Request::Lend(read.values[0])
-}
-
-fn parse_restore(line: &[u8], from: usize) -> Request {
-    let read = numbers_from(line, from, 1);
-    if !read.good {
-        return Request::Malformed;
-    }
-    Request::Restore(read.values[0])
-}
-
-fn parse_poke(line: &[u8], from: usize) -> Request {
-    let read = numbers_from(line, from, 2);
-    if !read.good {
-        return Request::Malformed;
-    }
-    let values = read.values;
-    if 255 < values[1] {
-        return Request::Malformed;
-    }
-    Request::Poke(values[0], values[1] as u8)
-}
-
-fn parse_bytes(line: &[u8], from: usize) -> Request {
-    let read = numbers_from(line, from, 2);
-    if !read.good {
-        return Request::Malformed;
-    }
-    let values = read.values;
-    Request::Bytes(values[0], values[1])
-}
-
-// What the words behind the first one make of it.
-fn parse_rest(verb: Verb, line: &[u8], from: usize) -> Request {
-    match verb {
-        Verb::Offer => parse_offer(line, from),
-        Verb::Ask => parse_ask(line, from),
-        Verb::Back => alone(line, from, Request::Back),
-        Verb::Status => alone(line, from, Request::Status),
-        Verb::Stretch => alone(line, from, Request::Stretch),
-        Verb::Lend => parse_lend(line, from),
-        Verb::Restore => parse_restore(line, from),
-        Verb::Poke => parse_poke(line, from),
-        Verb::Bytes => parse_bytes(line, from),
-        Verb::Open => Request::Malformed,
-        Verb::Unknown => Request::Malformed,
-    }
-}
-
-pub fn parse(line: &[u8]) -> Parsed {
-    if MAX_LINE < line.len() {
-        return without_gaps(Request::Malformed);
-    }
+fn parse(line: &[u8]) -> Parsed
+    ensures { λ r. ⌜ r ≡ askedBy (words (now (line .entry))) ⌝ }
+{
     let word = next_word(line, 0);
     let start = word.start;
     let end = word.end;
@@ -291,15 +289,16 @@ pub fn parse(line: &[u8]) -> Parsed {
     if line[start] == COMMENT {
         return without_gaps(Request::Nothing);
     }
-    let first = verb_of(&line[start..end]);
-    if let Verb::Open = first {
-        return parse_open(line, end);
+    if same(&line[start..end], b"open") {
+        return open_form(numbers_from(line, end, 24));
     }
-    without_gaps(parse_rest(first, line, end))
+    without_gaps(request_of(&line[start..end], line, end))
 }
 
 // A line as it came. A carriage return counts for its length, and is ignored right before a newline.
-pub fn parse_line(line: &[u8], ended: bool) -> Parsed {
+pub fn parse_line(line: &[u8], ended: bool) -> Parsed
+    ensures { λ r. ⌜ r ≡ asked (now (line .entry)) ended ⌝ }
+{
     if MAX_LINE < line.len() {
         return without_gaps(Request::Malformed);
     }

@@ -1,19 +1,25 @@
 // A request performed: the call, and the answer's line.
+ghost use mathlib.Core.Path.{_≡_};
+ghost use mathlib.Core.List.{[]};
+ghost use Prim.Native.Nat.{_≤_, min};
 ghost use lib.ListN.{length};
-ghost use Prim.Native.Nat.{_≤_};
+ghost use Rattle.checker.specs.Exact.{earliestIn, statusIn};
+ghost use Rattle.console.specs.declared.requests.Request.the-variants as asks;
+ghost use Rattle.console.specs.Say.{IsLine, askText, statusText, malformedText};
+ghost use Rattle.console.specs.Respond.{outcomeIn, outcome, Responds, Says};
 use crate::requests::Parsed;
 use crate::requests::Request;
-use crate::say::earliest_reply;
+use crate::say::ask_line;
+use crate::say::back_line;
+use crate::say::bytes_line;
+use crate::say::lend_line;
 use crate::say::malformed;
-use crate::say::offer_reply;
-use crate::say::one;
-use crate::say::open_number;
-use crate::say::replied;
-use crate::say::restore_beside;
-use crate::say::restore_number;
+use crate::say::offer_line;
+use crate::say::open_line;
+use crate::say::poke_line;
+use crate::say::restore_line;
 use crate::say::status_line;
-use crate::say::take_back_number;
-use crate::say::two;
+use crate::say::stretch_line;
 use checker::calls::earliest;
 use checker::calls::offer;
 use checker::calls::open_session;
@@ -37,7 +43,7 @@ pub struct Response {
 }
 
 fn smaller(a: u64, b: usize) -> usize
-    ensures { λ r. ⌜ r ≤ b ⌝ }
+    ensures { λ r. ⌜ r ≡ min a b ⌝ }
 {
     if a < b as u64 {
         return a as usize;
@@ -45,7 +51,9 @@ fn smaller(a: u64, b: usize) -> usize
     b
 }
 
-fn said(session: Session, lent: usize, line: Line) -> Response {
+fn said(session: Session, lent: usize, line: Line) -> Response
+    ensures { λ r. ⌜ r ≡ record { session = session; lent = lent; line = line; «hex_from» = 0; «hex_count» = 0 } ⌝ }
+{
     Response {
         session,
         lent,
@@ -53,6 +61,18 @@ fn said(session: Session, lent: usize, line: Line) -> Response {
         hex_from: 0,
         hex_count: 0,
     }
+}
+
+fn nothing(session: Session, lent: usize) -> Response
+    ensures { λ r. ⌜ Says [] session lent r ⌝ }
+{
+    said(session, lent, Line::empty())
+}
+
+fn refused(session: Session, lent: usize) -> Response
+    ensures { λ r. ⌜ Says malformedText session lent r ⌝ }
+{
+    said(session, lent, malformed())
 }
 
 fn opened(
@@ -66,6 +86,7 @@ fn opened(
     gaps: [DramCycles; 20],
 ) -> Response
     requires { ⌜ lent ≤ length (now journal) ⌝ }
+    ensures { λ r. ⌜ Responds (outcomeIn session (now (journal .entry)) lent (asks.Open ratio ranks mode client) gaps) r (now (journal .exit)) ⌝ }
 {
     let done = open_session(
         session,
@@ -78,7 +99,7 @@ fn opened(
     );
     let answer = done.answer;
     let next = done.session;
-    said(next, lent, one(b"open", open_number(answer)))
+    said(next, lent, open_line(answer))
 }
 
 fn offered(
@@ -91,34 +112,45 @@ fn offered(
     cycle: u64,
 ) -> Response
     requires { ⌜ lent ≤ length (now journal) ⌝ }
+    ensures { λ r. ⌜ Responds (outcomeIn session (now (journal .entry)) lent (asks.Offer kind rank bank cycle) []) r (now (journal .exit)) ⌝ }
 {
     let stamp = ControllerCycles(cycle);
     let done = offer(session, &mut journal[..lent], kind, rank, bank, stamp);
     let answer = done.answer;
     let next = done.session;
-    said(next, lent, replied(b"offer", offer_reply(answer)))
+    said(next, lent, offer_line(answer))
 }
 
-fn asked(session: Session, lent: usize, kind: u64, rank: u64, bank: u64) -> Response {
+fn asked(session: Session, lent: usize, kind: u64, rank: u64, bank: u64) -> Response
+    ensures { λ r. ⌜ Says (askText (earliestIn session kind rank bank)) session lent r ⌝ }
+{
     let answer = earliest(session, kind, rank, bank);
-    said(session, lent, replied(b"ask", earliest_reply(answer)))
+    said(session, lent, ask_line(answer))
 }
 
 fn taken_back(session: Session, journal: &mut [u8], lent: usize) -> Response
     requires { ⌜ lent ≤ length (now journal) ⌝ }
+    ensures { λ r. ⌜ Responds (outcomeIn session (now (journal .entry)) lent asks.Back []) r (now (journal .exit)) ⌝ }
 {
     let done = take_back(session, &mut journal[..lent]);
     let answer = done.answer;
     let next = done.session;
-    said(next, lent, one(b"back", take_back_number(answer)))
+    said(next, lent, back_line(answer))
+}
+
+fn told(session: Session, lent: usize) -> Response
+    ensures { λ r. ⌜ Says (statusText (statusIn session)) session lent r ⌝ }
+{
+    said(session, lent, status_line(status(session)))
 }
 
 fn stretched(session: Session, journal: &[u8], lent: usize) -> Response
     requires { ⌜ lent ≤ length (now journal) ⌝ }
+    ensures { λ r. ⌜ Responds (outcomeIn session (now (journal .entry)) lent asks.Stretch []) r (now (journal .entry)) ⌝ }
 {
     let part = stretch(session, &journal[..lent]);
     let count = part.len();
-    let line = one(b"stretch", count as u64);
+    let line = stretch_line(count as u64);
     if count == 0 {
         return said(session, lent, line);
     }
@@ -126,59 +158,73 @@ fn stretched(session: Session, journal: &[u8], lent: usize) -> Response
     Response {
         session,
         lent,
-        line: line.put(32),
+        line,
         hex_from: from,
         hex_count: count,
     }
 }
 
-fn restored(journal: &[u8], lent: usize, count: u64) -> Response {
+fn lend(session: Session, journal: &[u8], lent: usize, count: u64) -> Response
+    ensures { λ r. ⌜ Responds (outcomeIn session (now (journal .entry)) lent (asks.Lend count) []) r (now (journal .entry)) ⌝ }
+{
+    let n = smaller(count, journal.len());
+    said(session, n, lend_line(n as u64))
+}
+
+fn restored(session: Session, journal: &[u8], lent: usize, count: u64) -> Response
+    ensures { λ r. ⌜ Responds (outcomeIn session (now (journal .entry)) lent (asks.Restore count) []) r (now (journal .entry)) ⌝ }
+{
     let n = smaller(count, journal.len());
     let done = restore(&journal[..n]);
     let answer = done.answer;
     let next = done.session;
-    let line = two(b"restore", restore_number(answer), restore_beside(answer));
-    said(next, lent, line)
+    said(next, lent, restore_line(answer))
 }
 
-fn poked(session: Session, journal: &mut [u8], lent: usize, at: u64, byte: u8) -> Response {
+fn poked(session: Session, journal: &mut [u8], lent: usize, at: u64, byte: u8) -> Response
+    ensures { λ r. ⌜ Responds (outcomeIn session (now (journal .entry)) lent (asks.Poke at byte) []) r (now (journal .exit)) ⌝ }
+{
     if journal.len() as u64 <= at {
-        return said(session, lent, malformed());
+        return refused(session, lent);
     }
     let place = at as usize;
     journal[place] = byte;
-    said(session, lent, two(b"poke", at, byte as u64))
+    said(session, lent, poke_line(at, byte))
 }
 
-fn shown(session: Session, journal: &[u8], lent: usize, from: u64, count: u64) -> Response {
+fn shown(session: Session, journal: &[u8], lent: usize, from: u64, count: u64) -> Response
+    ensures { λ r. ⌜ Responds (outcomeIn session (now (journal .entry)) lent (asks.Bytes from count) []) r (now (journal .entry)) ⌝ }
+{
     let len = journal.len() as u64;
     if len < count {
-        return said(session, lent, malformed());
+        return refused(session, lent);
     }
     if len - count < from {
-        return said(session, lent, malformed());
+        return refused(session, lent);
     }
-    let name = Line::empty().put_all(b"bytes");
+    let line = bytes_line(count);
     if count == 0 {
-        return said(session, lent, name);
+        return said(session, lent, line);
     }
     Response {
         session,
         lent,
-        line: name.put(32),
+        line,
         hex_from: from as usize,
         hex_count: count as usize,
     }
 }
 
 // Calls see the first `lent` bytes of the journal; `restore`, `poke` and `bytes` see all of it.
-pub fn respond(session: Session, journal: &mut [u8], lent: usize, parsed: Parsed) -> Response {
+pub fn respond(session: Session, journal: &mut [u8], lent: usize, parsed: Parsed) -> Response
+    ensures { λ r. ⌜ Responds (outcome session (now (journal .entry)) lent parsed) r (now (journal .exit)) ⌝ }
+{
     let request = parsed.request;
     let gaps = parsed.gaps;
     let lent = smaller(lent as u64, journal.len());
     match request {
-        Request::Nothing => said(session, lent, Line::empty()),
-        Request::Malformed => said(session, lent, malformed()),
+        Request::Nothing => nothing(session, lent),
+        Request::Malformed => refused(session, lent),
         Request::Open {
             ratio,
             ranks,
@@ -193,16 +239,11 @@ pub fn respond(session: Session, journal: &mut [u8], lent: usize, parsed: Parsed
         } => offered(session, journal, lent, kind, rank, bank, cycle),
         Request::Ask { kind, rank, bank } => asked(session, lent, kind, rank, bank),
         Request::Back => taken_back(session, journal, lent),
-        Request::Status => said(session, lent, status_line(status(session))),
+        Request::Status => told(session, lent),
         Request::Stretch => stretched(session, journal, lent),
-        Request::Lend(count) => lend(session, journal, count),
-        Request::Restore(count) => restored(journal, lent, count),
+        Request::Lend(count) => lend(session, journal, lent, count),
+        Request::Restore(count) => restored(session, journal, lent, count),
         Request::Poke(at, byte) => poked(session, journal, lent, at, byte),
         Request::Bytes(from, count) => shown(session, journal, lent, from, count),
     }
-}
-
-fn lend(session: Session, journal: &[u8], count: u64) -> Response {
-    let n = smaller(count, journal.len());
-    said(session, n, one(b"lend", n as u64))
 }

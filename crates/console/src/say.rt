@@ -1,4 +1,14 @@
-// Answers as numbers.
+// The line of each answer.
+ghost use mathlib.Core.Path.{_≡_};
+ghost use mathlib.Core.List.{[], _∷_, _++_};
+ghost use lib.ListN.{length};
+ghost use Prim.Native.Nat.{_≤_};
+ghost use Rattle.text.specs.Text.{decimal};
+ghost use Rattle.text.specs.Lines.{Appended};
+ghost use Rattle.history.specs.Answers as answer;
+ghost use Rattle.journal.specs.Listing.{space};
+ghost use Rattle.checker.specs.Replies.{openReplied, offerReplied, earliestReplied, takeBackReplied, statusReplied, restoreNumbered, restoreBeside};
+ghost use Rattle.console.specs.Say.{IsLine, numbered, openText, replyText, offerText, askText, backText, statusText, restoreText, lendText, pokeText, malformedText, stretchText, bytesText, replyIn};
 use checker::answers::EarliestAnswer;
 use checker::answers::OfferAnswer;
 use checker::answers::OpenAnswer;
@@ -11,13 +21,15 @@ use text::lines::Line;
 use timing::clocks::ControllerCycles;
 
 // Document 01's number, and the cycle and the gap beside it.
-pub struct Reply {
-    pub number: u64,
-    pub cycle: u64,
-    pub gap: u64,
+struct Reply {
+    number: u64,
+    cycle: u64,
+    gap: u64,
 }
 
-fn plain(number: u64) -> Reply {
+fn plain(number: u64) -> Reply
+    ensures { λ r. ⌜ replyIn r ≡ answer.plain number ⌝ }
+{
     Reply {
         number,
         cycle: 0,
@@ -25,7 +37,9 @@ fn plain(number: u64) -> Reply {
     }
 }
 
-fn early(number: u64, earliest: Earliest) -> Reply {
+fn early(number: u64, earliest: Earliest) -> Reply
+    ensures { λ r. ⌜ replyIn r ≡ record { number = number; cycle = earliest .cycle .0; gap = earliest .gap } ⌝ }
+{
     Reply {
         number,
         cycle: earliest.cycle.0,
@@ -33,7 +47,9 @@ fn early(number: u64, earliest: Earliest) -> Reply {
     }
 }
 
-fn own(cycle: ControllerCycles) -> Reply {
+fn own(cycle: ControllerCycles) -> Reply
+    ensures { λ r. ⌜ replyIn r ≡ record { number = 0; cycle = cycle .0; gap = 0 } ⌝ }
+{
     Reply {
         number: 0,
         cycle: cycle.0,
@@ -41,7 +57,9 @@ fn own(cycle: ControllerCycles) -> Reply {
     }
 }
 
-pub fn open_number(answer: OpenAnswer) -> u64 {
+fn open_number(answer: OpenAnswer) -> u64
+    ensures { λ r. ⌜ r ≡ openReplied answer .number ⌝ }
+{
     match answer {
         OpenAnswer::Accepted => 0,
         OpenAnswer::NoRoom => 9,
@@ -49,7 +67,9 @@ pub fn open_number(answer: OpenAnswer) -> u64 {
     }
 }
 
-pub fn offer_reply(answer: OfferAnswer) -> Reply {
+fn offer_reply(answer: OfferAnswer) -> Reply
+    ensures { λ r. ⌜ replyIn r ≡ offerReplied answer ⌝ }
+{
     match answer {
         OfferAnswer::Accepted(cycle) => own(cycle),
         OfferAnswer::NoSession => plain(1),
@@ -63,7 +83,9 @@ pub fn offer_reply(answer: OfferAnswer) -> Reply {
     }
 }
 
-pub fn earliest_reply(answer: EarliestAnswer) -> Reply {
+fn earliest_reply(answer: EarliestAnswer) -> Reply
+    ensures { λ r. ⌜ replyIn r ≡ earliestReplied answer ⌝ }
+{
     match answer {
         EarliestAnswer::Found(earliest) => early(0, earliest),
         EarliestAnswer::NoSession => plain(1),
@@ -73,7 +95,9 @@ pub fn earliest_reply(answer: EarliestAnswer) -> Reply {
     }
 }
 
-pub fn take_back_number(answer: TakeBackAnswer) -> u64 {
+fn take_back_number(answer: TakeBackAnswer) -> u64
+    ensures { λ r. ⌜ r ≡ takeBackReplied answer .number ⌝ }
+{
     match answer {
         TakeBackAnswer::Accepted => 0,
         TakeBackAnswer::NoSession => 1,
@@ -83,7 +107,9 @@ pub fn take_back_number(answer: TakeBackAnswer) -> u64 {
 }
 
 // A restore's number, and the record number beside it.
-pub fn restore_number(answer: RestoreAnswer) -> u64 {
+fn restore_number(answer: RestoreAnswer) -> u64
+    ensures { λ r. ⌜ r ≡ restoreNumbered answer ⌝ }
+{
     match answer {
         RestoreAnswer::Restored => 0,
         RestoreAnswer::TooLong => 9,
@@ -91,7 +117,9 @@ pub fn restore_number(answer: RestoreAnswer) -> u64 {
     }
 }
 
-pub fn restore_beside(answer: RestoreAnswer) -> u64 {
+fn restore_beside(answer: RestoreAnswer) -> u64
+    ensures { λ r. ⌜ r ≡ restoreBeside answer ⌝ }
+{
     match answer {
         RestoreAnswer::Restored => 0,
         RestoreAnswer::TooLong => 0,
@@ -100,36 +128,117 @@ pub fn restore_beside(answer: RestoreAnswer) -> u64 {
 }
 
 // A space and a number.
-fn also(line: Line, number: u64) -> Line {
-    line.put(32).put_decimal(number)
+fn also(line: Line, number: u64) -> Line
+    ensures { λ r. ⌜ Appended line (space ++ decimal number) r ⌝ }
+{
+    line.put(b' ').put_decimal(number)
 }
 
-pub fn malformed() -> Line {
-    Line::empty().put(63)
-}
-
-pub fn one(name: &[u8], number: u64) -> Line {
+// No name is longer than 8 bytes.
+fn one(name: &[u8], number: u64) -> Line
+    requires { ⌜ length (now name) ≤ 8 ⌝ }
+    ensures { λ r. ⌜ IsLine (numbered (now (name .entry)) (number ∷ [])) r ⌝ }
+{
     also(Line::empty().put_all(name), number)
 }
 
-pub fn two(name: &[u8], first: u64, second: u64) -> Line {
+fn two(name: &[u8], first: u64, second: u64) -> Line
+    requires { ⌜ length (now name) ≤ 8 ⌝ }
+    ensures { λ r. ⌜ IsLine (numbered (now (name .entry)) (first ∷ second ∷ [])) r ⌝ }
+{
     also(one(name, first), second)
 }
 
-pub fn replied(name: &[u8], reply: Reply) -> Line {
+fn replied(name: &[u8], reply: Reply) -> Line
+    requires { ⌜ length (now name) ≤ 8 ⌝ }
+    ensures { λ r. ⌜ IsLine (replyText (now (name .entry)) (replyIn reply)) r ⌝ }
+{
     also(two(name, reply.number, reply.cycle), reply.gap)
 }
 
-fn known(status: Status) -> Line {
+pub fn malformed() -> Line
+    ensures { λ r. ⌜ IsLine malformedText r ⌝ }
+{
+    Line::empty().put(b'?')
+}
+
+pub fn open_line(answer: OpenAnswer) -> Line
+    ensures { λ r. ⌜ IsLine (openText (openReplied answer)) r ⌝ }
+{
+    one(b"open", open_number(answer))
+}
+
+pub fn offer_line(answer: OfferAnswer) -> Line
+    ensures { λ r. ⌜ IsLine (offerText (offerReplied answer)) r ⌝ }
+{
+    replied(b"offer", offer_reply(answer))
+}
+
+pub fn ask_line(answer: EarliestAnswer) -> Line
+    ensures { λ r. ⌜ IsLine (askText (earliestReplied answer)) r ⌝ }
+{
+    replied(b"ask", earliest_reply(answer))
+}
+
+pub fn back_line(answer: TakeBackAnswer) -> Line
+    ensures { λ r. ⌜ IsLine (backText (takeBackReplied answer)) r ⌝ }
+{
+    one(b"back", take_back_number(answer))
+}
+
+fn known_line(status: Status) -> Line
+    ensures { λ r. ⌜ IsLine (statusText (record { number = 0; client = status .client; opening = status .opening; survivors = status .survivors; depth = status .depth; last = status .last .0; records = status .records })) r ⌝ }
+{
     let line = two(b"status", 0, status.client as u64);
     let placed = also(also(line, status.opening as u64), status.survivors);
     let last = status.last;
     also(also(also(placed, status.depth), last.0), status.records)
 }
 
-pub fn status_line(answer: StatusAnswer) -> Line {
+pub fn status_line(answer: StatusAnswer) -> Line
+    ensures { λ r. ⌜ IsLine (statusText (statusReplied answer)) r ⌝ }
+{
     match answer {
-        StatusAnswer::Known(status) => known(status),
+        StatusAnswer::Known(status) => known_line(status),
         StatusAnswer::NoSession => Line::empty().put_all(b"status 1 0 0 0 0 0 0"),
     }
+}
+
+pub fn restore_line(answer: RestoreAnswer) -> Line
+    ensures { λ r. ⌜ IsLine (restoreText (restoreNumbered answer) (restoreBeside answer)) r ⌝ }
+{
+    two(b"restore", restore_number(answer), restore_beside(answer))
+}
+
+pub fn lend_line(count: u64) -> Line
+    ensures { λ r. ⌜ IsLine (lendText count) r ⌝ }
+{
+    one(b"lend", count)
+}
+
+pub fn poke_line(at: u64, byte: u8) -> Line
+    ensures { λ r. ⌜ IsLine (pokeText at byte) r ⌝ }
+{
+    two(b"poke", at, byte as u64)
+}
+
+// The stretch's bytes stand behind its line, after a space.
+pub fn stretch_line(count: u64) -> Line
+    ensures { λ r. ⌜ IsLine (stretchText count) r ⌝ }
+{
+    let line = one(b"stretch", count);
+    if count == 0 {
+        return line;
+    }
+    line.put(b' ')
+}
+
+pub fn bytes_line(count: u64) -> Line
+    ensures { λ r. ⌜ IsLine (bytesText count) r ⌝ }
+{
+    let line = Line::empty().put_all(b"bytes");
+    if count == 0 {
+        return line;
+    }
+    line.put(b' ')
 }

@@ -1,6 +1,10 @@
 // A line taken apart: words separated by spaces and tabs, and words as numbers.
-ghost use lib.ListN.{length};
-ghost use Prim.Native.Nat.{_≤_};
+ghost use mathlib.Core.Path.{_≡_};
+ghost use mathlib.Core.Bool.{cond};
+ghost use lib.ListN.{drop};
+ghost use Prim.Native.Nat.{_-_};
+ghost use Rattle.console.specs.Places.{past};
+ghost use Rattle.console.specs.Words.{isBlank, inWord, words, wordAt, sameWord, isDigit, numberOf, noNumbers, numbersOf};
 
 // A word's place in its line. An empty one stands where no word is left.
 pub struct Word {
@@ -23,7 +27,9 @@ const SPACE: u8 = 32;
 
 const TAB: u8 = 9;
 
-pub fn is_blank(byte: u8) -> bool {
+pub fn is_blank(byte: u8) -> bool
+    ensures { λ r. ⌜ r ≡ isBlank byte ⌝ }
+{
     if byte == SPACE {
         return true;
     }
@@ -31,7 +37,9 @@ pub fn is_blank(byte: u8) -> bool {
 }
 
 // A decimal digit's value; 10 for any other byte.
-fn digit_value(byte: u8) -> u64 {
+fn digit_value(byte: u8) -> u64
+    ensures { λ r. ⌜ r ≡ cond (isDigit byte) (byte - 48) 10 ⌝ }
+{
     if byte < 48 {
         return 10;
     }
@@ -42,8 +50,7 @@ fn digit_value(byte: u8) -> u64 {
 }
 
 fn skip_blanks(line: &[u8], from: usize) -> usize
-    requires { ⌜ from ≤ length (now line) ⌝ }
-    ensures { λ r. ⌜ (from ≤ r) × (r ≤ length (now (line .entry))) ⌝ }
+    ensures { λ r. ⌜ r ≡ past isBlank (now (line .entry)) from ⌝ }
 {
     let mut i = from;
     while i < line.len() {
@@ -52,12 +59,11 @@ fn skip_blanks(line: &[u8], from: usize) -> usize
         }
         i += 1;
     }
-    i
+    line.len()
 }
 
 fn word_end(line: &[u8], from: usize) -> usize
-    requires { ⌜ from ≤ length (now line) ⌝ }
-    ensures { λ r. ⌜ (from ≤ r) × (r ≤ length (now (line .entry))) ⌝ }
+    ensures { λ r. ⌜ r ≡ past inWord (now (line .entry)) from ⌝ }
 {
     let mut i = from;
     while i < line.len() {
@@ -66,24 +72,20 @@ fn word_end(line: &[u8], from: usize) -> usize
         }
         i += 1;
     }
-    i
+    line.len()
 }
 
 pub fn next_word(line: &[u8], from: usize) -> Word
-    ensures { λ r. ⌜ (r .start ≤ r .end) × (r .end ≤ length (now (line .entry))) ⌝ }
+    ensures { λ r. ⌜ r ≡ wordAt (now (line .entry)) from ⌝ }
 {
-    if line.len() <= from {
-        return Word {
-            start: line.len(),
-            end: line.len(),
-        };
-    }
     let start = skip_blanks(line, from);
     let end = word_end(line, start);
     Word { start, end }
 }
 
-pub fn same(word: &[u8], other: &[u8]) -> bool {
+pub fn same(word: &[u8], other: &[u8]) -> bool
+    ensures { λ r. ⌜ r ≡ sameWord (now (word .entry)) (now (other .entry)) ⌝ }
+{
     if word.len() != other.len() {
         return false;
     }
@@ -98,7 +100,9 @@ pub fn same(word: &[u8], other: &[u8]) -> bool {
 }
 
 // A word as a number. More than 64 bits hold is no number.
-pub fn number_of(word: &[u8]) -> Number {
+pub fn number_of(word: &[u8]) -> Number
+    ensures { λ r. ⌜ r ≡ numberOf (now (word .entry)) ⌝ }
+{
     if word.len() == 0 {
         return Number::NoNumber;
     }
@@ -118,15 +122,23 @@ pub fn number_of(word: &[u8]) -> Number {
     Number::Value(value)
 }
 
-// The words from a place to the line's end, as numbers; not good if they are more or fewer, or one is no number.
-pub fn numbers_from(line: &[u8], from: usize, count: usize) -> Numbers {
-    let mut values = [0u64; 24];
-    if 24 < count {
-        return Numbers {
-            good: false,
-            values,
-        };
+fn no_numbers() -> Numbers
+    ensures { λ r. ⌜ r ≡ noNumbers ⌝ }
+{
+    Numbers {
+        good: false,
+        values: [0u64; 24],
     }
+}
+
+// The words from a place to the line's end, as numbers; not good if they are more or fewer, or one is no number.
+pub fn numbers_from(line: &[u8], from: usize, count: usize) -> Numbers
+    ensures { λ r. ⌜ r ≡ numbersOf count (words (drop from (now (line .entry)))) ⌝ }
+{
+    if 24 < count {
+        return no_numbers();
+    }
+    let mut values = [0u64; 24];
     let mut at = from;
     let mut i = 0;
     while i < count {
@@ -134,18 +146,15 @@ pub fn numbers_from(line: &[u8], from: usize, count: usize) -> Numbers {
         let start = word.start;
         let end = word.end;
         let Number::Value(value) = number_of(&line[start..end]) else {
-            return Numbers {
-                good: false,
-                values,
-            };
+            return no_numbers();
         };
         values[i] = value;
         at = end;
         i += 1;
     }
     let rest = next_word(line, at);
-    Numbers {
-        good: rest.start == rest.end,
-        values,
+    if rest.start < rest.end {
+        return no_numbers();
     }
+    Numbers { good: true, values }
 }

@@ -1,6 +1,6 @@
 -- Laws of a line under way, and of decimal digits.
 use mathlib.Core.Path.{_≡_, refl, sym, _∙_, ap, subst}
-use mathlib.Core.Bool.{cond}
+use mathlib.Core.Bool.{Bool, true, false, cond}
 use mathlib.Core.List.{List, [], _∷_, _++_, append-assoc, append-nil}
 use Prim.Native.Nat.{ℕ, zero, suc, _+_, _*_, _-_, _/_, _%_, _^_, _≤_, _<_}
 use native.Mathlib.Nat.{pow-suc, div-lt-iff-lt-mul}
@@ -9,7 +9,7 @@ use native.Mathlib.Omega.{arith}
 use lib.Dec.{ltb}
 use lib.ListN.{length, take, drop, set, getD, length-append, length-set, drop-of-length-le}
 use lib.Seq.{take-suc, take-suc-set, drop-cons, drop-set-lt, getD-set-same}
-use borrow.Author.Tests.{le-ltb, lt-ltb}
+use borrow.Author.Tests.{le-ltb, lt-ltb, ltb-false}
 use Rattle.text.specs.declared.lines.Line.{Line}
 use Rattle.text.specs.Text.{digits}
 use Rattle.text.specs.Lines.{lineSize, shown, Appended}
@@ -71,3 +71,22 @@ digits-last number ds at n less d =
 pub digits-room : (number : ℕ) (ds : List ℕ) (at n : ℕ) → 10 ≤ n → Digits number ds at n → 1 ≤ at
 digits-room number ds zero n more d = absurd (omega (arith, d .2))
 digits-room number ds (suc k) n more d = omega arith
+
+-- how many digits there are: one more than those of a tenth
+one-more : (m n k : ℕ) (t : Bool) → ltb n 10 ≡ t → (t ≡ false → length (digits m (n / 10)) ≤ k) → length (digits (suc m) n) ≤ suc k
+unfolding digits
+one-more m n k true e more = rw e (omega arith)
+one-more m n k false e more = rw e (simp length-append (omega (arith, more refl)))
+
+pub decimal-most : (m n : ℕ) → length (digits m n) ≤ m
+unfolding digits
+decimal-most zero n = omega arith
+decimal-most (suc m) n = one-more m n m (ltb n 10) refl (λ e. decimal-most m (n / 10))
+
+-- a number below 10 to the k has at most k digits
+pub decimal-short : (m k n : ℕ) → n < 10 ^ suc k → length (digits m n) ≤ suc k
+unfolding digits
+decimal-short zero k n low = omega arith
+decimal-short (suc m) zero n low = one-more m n zero (ltb n 10) refl (λ e. absurd (omega (arith, ltb-false n 10 e)))
+decimal-short (suc m) (suc k) n low =
+    one-more m n (suc k) (ltb n 10) refl (λ e. decimal-short m k (n / 10) (tenth n (suc k) low))

@@ -32,10 +32,10 @@ add-behind : tie.Need-add-behind Inv-loop μ-loop
 add-behind c = search needs
 
 sub-play-line : tie.Need-sub-play-line Inv-loop μ-loop
-sub-play-line c = omega (arith, c .before .before .before .line-end .ensures .1 (c .before .before .before .before .before .loop .inv .0))
+sub-play-line c = omega (arith, c .before .before .before .line-end .ensures, c .before .before .before .before .before .loop .inv .0)
 
 part-play-line-start : tie.Need-part-play-line-start Inv-loop μ-loop
-part-play-line-start c = omega (arith, c .before .before .before .line-end .ensures .1 (c .before .before .before .before .before .loop .inv .0))
+part-play-line-start c = omega (arith, c .before .before .before .line-end .ensures, c .before .before .before .before .before .loop .inv .0)
 
 part-play-line-end : tie.Need-part-play-line-end Inv-loop μ-loop
 part-play-line-end c = search needs
@@ -44,7 +44,7 @@ play-line-requires : tie.Need-play-line-requires Inv-loop μ-loop
 play-line-requires c κs = search needs
 
 loop-less : tie.Need-loop-less Inv-loop μ-loop
-loop-less c = omega (arith, c .before .before .before .before .before .before .before .before .before .line-end .ensures .1 (c .before .before .before .before .before .before .before .before .before .before .before .loop .inv .0))
+loop-less c = omega (arith, c .before .before .before .before .before .before .before .before .before .line-end .ensures, c .before .before .before .before .before .before .before .before .before .before .before .loop .inv .0)
 
 loop-again : tie.Need-loop-again Inv-loop μ-loop
 loop-again c = search needs

@@ -1,22 +1,30 @@
--- `keep` meets its contract.
-use mathlib.Core.Path.{_≡_}
-use lib.ListN.{length}
-use Prim.Native.Nat.{_+_, _*_, _-_, _≤_, _<_}
+-- `keep` meets its contract: what is read lies ahead of what is written.
+use mathlib.Core.Path.{_≡_, refl, _∙_}
+use Prim.Native.Nat.{_-_, _≤_}
+use native.Mathlib.Omega.{arith}
+use lib.ListN.{length, take, drop, length-set}
+use lib.Seq.{paste, paste-zero}
+use Rattle.console.specs.Output.{underWay}
+use Rattle.console.proofs.OutputLaws.{move-next, under-none, under-out, under-is, kept-none, kept-end}
 use borrow.Author.Needs.{needs}
 use Rattle.console.proofs.lines.keep.Statement.{statement}
 use Rattle.console.proofs.lines.keep.Tie as tie
 
 abbrev Inv-loop : tie.InvT-loop
-Inv-loop bytes₀ from end n i₀ bytes i = (i ≤ n) × (length bytes ≡ length bytes₀)
+Inv-loop bytes₀ from end n i₀ bytes i = (i ≤ n) × (length bytes ≡ length bytes₀) × (bytes ≡ paste bytes₀ 0 (take n (drop from bytes₀)) i)
 
 abbrev μ-loop : tie.MeasureT-loop
 μ-loop bytes₀ from end n i₀ bytes i = n - i
 
 returns : tie.Need-returns Inv-loop μ-loop
-returns c = search needs
+returns c =
+    let a = c .before .before .args in
+    kept-none (a .bytes .now) (underWay (a .bytes .now) (a .from) (a .end)) (under-none (a .bytes .now) (a .from) (a .end) (c .if1 .taken))
 
 returns-2 : tie.Need-returns-2 Inv-loop μ-loop
-returns-2 c = search needs
+returns-2 c =
+    let a = c .before .before .before .args in
+    kept-none (a .bytes .now) (underWay (a .bytes .now) (a .from) (a .end)) (under-out (a .bytes .now) (a .from) (a .end) (c .if2 .taken))
 
 sub-kept : tie.Need-sub-kept Inv-loop μ-loop
 sub-kept c = search needs
@@ -25,7 +33,9 @@ kept-requires : tie.Need-kept-requires Inv-loop μ-loop
 kept-requires c κs = search needs
 
 loop-holds : tie.Need-loop-holds Inv-loop μ-loop
-loop-holds c = search needs
+loop-holds c =
+    let a = c .before .before .before .before .args in
+    (omega arith, refl, paste-zero (a .bytes .now) 0 (take (c .kept .result) (drop (a .from) (a .bytes .now))))
 
 add-bytes : tie.Need-add-bytes Inv-loop μ-loop
 add-bytes c = search needs
@@ -43,13 +53,23 @@ loop-less : tie.Need-loop-less Inv-loop μ-loop
 loop-less c = search needs
 
 loop-again : tie.Need-loop-again Inv-loop μ-loop
-loop-again c = search needs
+loop-again c =
+    let a = c .before .before .before .before .before .before .before .args in
+    let l = c .before .before .loop in
+    (omega arith, simp length-set (l .inv .1), rw (l .inv .2) (move-next (a .bytes .now) (a .from) (c .before .before .before .kept .result) (l .i) (c .before .loop-test .taken) (omega arith)))
 
 same-length : tie.Need-same-length Inv-loop μ-loop
-same-length c = search needs
+same-length c = c .before .loop .inv .1
 
 returns-3 : tie.Need-returns-3 Inv-loop μ-loop
-returns-3 c = search needs
+returns-3 c =
+    let a = c .before .before .before .before .before .before .args in
+    let l = c .before .loop in
+    let bytes = a .bytes .now in
+    let n = c .before .before .kept in
+    let done : l .i ≡ n .result = omega arith in
+    let is : l .bytes ≡ paste bytes 0 (take (n .result) (drop (a .from) bytes)) (n .result) = l .inv .2 ∙ rw done in
+    kept-end bytes (underWay bytes (a .from) (a .end)) (l .bytes) (a .from) (n .result) (under-is bytes (a .from) (a .end) (c .before .before .before .if2 .left) (n .result) (n .ensures)) (omega arith) is
 
 pub keep-spec : {M : Type 1} → statement M
 keep-spec =

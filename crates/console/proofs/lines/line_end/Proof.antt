@@ -1,24 +1,32 @@
 -- `line_end` meets its contract.
+use mathlib.Core.Path.{_≡_, refl, sym, _∙_, ap}
+use mathlib.Core.Bool.{not}
+use Prim.Native.Nat.{_-_}
 use lib.ListN.{length}
-use Prim.Native.Nat.{_+_, _*_, _-_, _≤_, _<_}
+use borrow.Author.Tests.{eq-eqb, ne-eqb}
+use Rattle.console.specs.Output.{inLine, lineEnd}
+use Rattle.console.proofs.PlaceLaws.{past-here, past-next, past-end}
 use borrow.Author.Needs.{needs}
 use Rattle.console.proofs.lines.line_end.Statement.{statement}
 use Rattle.console.proofs.lines.line_end.Tie as tie
 
 abbrev Inv-loop : tie.InvT-loop
-Inv-loop bytes from i₀ i = from ≤ i
+Inv-loop bytes from i₀ i = lineEnd bytes from ≡ lineEnd bytes i
 
 abbrev μ-loop : tie.MeasureT-loop
 μ-loop bytes from i₀ i = length bytes - i
 
 loop-holds : tie.Need-loop-holds Inv-loop μ-loop
-loop-holds c = search needs
+loop-holds c = refl
 
 shared-slice-read-if1 : tie.Need-shared-slice-read-if1 Inv-loop μ-loop
 shared-slice-read-if1 c = search needs
 
 returns : tie.Need-returns Inv-loop μ-loop
-returns c = search needs
+returns c =
+    let l = c .before .before .before .loop in
+    let bytes = c .before .before .before .before .args .bytes .now in
+    sym (l .inv ∙ past-here inLine bytes (l .i) (c .before .before .loop-test .taken) (ap not (eq-eqb _ 10 (c .if1 .taken))))
 
 add-i : tie.Need-add-i Inv-loop μ-loop
 add-i c = search needs
@@ -27,10 +35,13 @@ loop-less : tie.Need-loop-less Inv-loop μ-loop
 loop-less c = search needs
 
 loop-again : tie.Need-loop-again Inv-loop μ-loop
-loop-again c = search needs
+loop-again c =
+    let l = c .before .before .before .loop in
+    let bytes = c .before .before .before .before .args .bytes .now in
+    l .inv ∙ past-next inLine bytes (l .i) (c .before .before .loop-test .taken) (ap not (ne-eqb _ 10 (c .if1 .left)))
 
 returns-2 : tie.Need-returns-2 Inv-loop μ-loop
-returns-2 c = search needs
+returns-2 c = sym (c .before .loop .inv ∙ past-end inLine (c .before .before .args .bytes .now) (c .before .loop .i) (c .loop-test .left))
 
 pub line-end-spec : {M : Type 1} → statement M
 line-end-spec =

@@ -1,36 +1,44 @@
--- `put_hex` meets its contract.
+-- `put_hex` meets its contract. The invariant: the digits of the first i bytes are written, and `out` is as long as it was.
+use mathlib.Core.Path.{_≡_, refl, sym, _∙_}
+use Prim.Native.Nat.{_≤_, _-_, _*_}
 use native.Mathlib.Omega.{arith}
-use lib.ListN.{length-set}
-use mathlib.Core.Path.{_≡_}
-use lib.ListN.{length}
-use Prim.Native.Nat.{_+_, _*_, _-_, _≤_, _<_}
+use lib.ListN.{length, length-set}
+use lib.Seq.{paste, paste-zero, take-all}
+use Rattle.console.specs.Output.{hexText}
+use Rattle.console.proofs.OutputLaws.{put-none, put-paste, hex-size, hex-next}
 use borrow.Author.Needs.{needs}
 use Rattle.console.proofs.output.put_hex.Statement.{statement}
 use Rattle.console.proofs.output.put_hex.Tie as tie
 
 abbrev Inv-loop : tie.InvT-loop
-Inv-loop out₀ at bytes i₀ i-end out i = (i ≤ i-end) × (length out ≡ length out₀)
+Inv-loop out₀ at bytes i₀ i-end out i = (i ≤ i-end) × (length out ≡ length out₀) × (out ≡ paste out₀ at (hexText bytes) (2 * i))
 
 abbrev μ-loop : tie.MeasureT-loop
 μ-loop out₀ at bytes i₀ i-end out i = i-end - i
 
 returns : tie.Need-returns Inv-loop μ-loop
-returns c = search needs
+returns c =
+    let a = c .before .before .before .args in
+    put-none (hexText (a .bytes .now)) (a .at) (a .out .now) (omega arith)
 
 sub-if2 : tie.Need-sub-if2 Inv-loop μ-loop
 sub-if2 c = search needs
 
 returns-2 : tie.Need-returns-2 Inv-loop μ-loop
-returns-2 c = search needs
+returns-2 c =
+    let a = c .before .before .before .before .args in
+    put-none (hexText (a .bytes .now)) (a .at) (a .out .now) (omega (arith, hex-size (a .bytes .now)))
 
 loop-holds : tie.Need-loop-holds Inv-loop μ-loop
-loop-holds c = search needs
+loop-holds c =
+    let a = c .before .before .before .before .args in
+    (omega arith, refl, paste-zero (a .out .now) (a .at) (hexText (a .bytes .now)))
 
 shared-slice-read-byte : tie.Need-shared-slice-read-byte Inv-loop μ-loop
 shared-slice-read-byte c = search needs
 
 hex-digit-requires : tie.Need-hex-digit-requires Inv-loop μ-loop
-hex-digit-requires c κs = search needs
+hex-digit-requires c κs = omega (arith, c .shared-slice-known2 .given (c .before .before .loop .i))
 
 mul-out : tie.Need-mul-out Inv-loop μ-loop
 mul-out c = search needs
@@ -63,7 +71,11 @@ loop-less : tie.Need-loop-less Inv-loop μ-loop
 loop-less c = search needs
 
 loop-again : tie.Need-loop-again Inv-loop μ-loop
-loop-again c = search needs
+loop-again c =
+    let a = c .before .before .before .before .before .before .before .before .before .args in
+    let l = c .before .before .before .before .loop in
+    let step = hex-next (a .bytes .now) (a .out .now) (a .at) (l .i) (c .before .before .before .loop-test .taken) (omega arith) in
+    (omega arith, simp length-set (l .inv .1), rw (l .inv .2, c .before .hex-digit .ensures, c .hex-digit2 .ensures) step)
 
 mul-result : tie.Need-mul-result Inv-loop μ-loop
 mul-result c = search needs
@@ -72,10 +84,16 @@ add-result : tie.Need-add-result Inv-loop μ-loop
 add-result c = search needs
 
 same-length : tie.Need-same-length Inv-loop μ-loop
-same-length c = search needs
+same-length c = c .before .loop .inv .1
 
 returns-3 : tie.Need-returns-3 Inv-loop μ-loop
-returns-3 c = search needs
+returns-3 c =
+    let a = c .before .before .before .before .before .before .args in
+    let l = c .before .loop in
+    let text = hexText (a .bytes .now) in
+    let size = hex-size (a .bytes .now) in
+    let done : l .i ≡ length (a .bytes .now) = omega arith in
+    put-paste text (a .at) (a .out .now) text (l .out) (2 * length (a .bytes .now)) _ (sym (take-all (2 * length (a .bytes .now)) text (omega arith))) size (omega arith) (l .inv .2 ∙ rw done) refl
 
 pub put-hex-spec : {M : Type 1} → statement M
 put-hex-spec =

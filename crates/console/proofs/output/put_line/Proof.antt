@@ -1,31 +1,46 @@
--- `put_line` meets its contract.
-use mathlib.Core.Path.{_≡_}
-use lib.ListN.{length}
-use Prim.Native.Nat.{_+_, _*_, _-_, _≤_, _<_}
+-- `put_line` meets its contract. The invariant: the first i bytes are copied, and `out` is as long as it was.
+use mathlib.Core.Path.{_≡_, refl, sym, _∙_}
+use Prim.Native.Nat.{_≤_, _-_}
+use native.Mathlib.Numerals.{add-one}
+use native.Mathlib.Omega.{arith}
+use lib.ListN.{length, length-set, length-map}
+use lib.Seq.{paste, paste-zero, paste-suc}
+use Rattle.text.specs.Lines.{shown}
+use Rattle.console.proofs.OutputLaws.{put-none, put-paste, shown-first}
 use borrow.Author.Needs.{needs}
 use Rattle.console.proofs.output.put_line.Statement.{statement}
 use Rattle.console.proofs.output.put_line.Tie as tie
 
 abbrev Inv-loop : tie.InvT-loop
-Inv-loop out₀ at bytes len i₀ out i = (i ≤ len) × (length out ≡ length out₀)
+Inv-loop out₀ at bytes len i₀ out i = (i ≤ len) × (length out ≡ length out₀) × (out ≡ paste out₀ at bytes i)
 
 abbrev μ-loop : tie.MeasureT-loop
 μ-loop out₀ at bytes len i₀ out i = len - i
 
+shown-size-requires : tie.Need-shown-size-requires Inv-loop μ-loop
+shown-size-requires c κs = search needs
+
 returns : tie.Need-returns Inv-loop μ-loop
-returns c = search needs
+returns c =
+    let a = c .before .before .before .before .args in
+    let l = a .line in
+    let size : length (l .bytes) ≡ 128 = sym (length-map (l .bytes) (λ v. v)) ∙ c .before .before .before .before .good .1 .1 .0 .1 .1 .0 .1 .0 .1 in
+    put-none (shown l) (a .at) (a .out .now) (omega (arith, shown-first (l .bytes) (l .len) (c .before .shown-size .result) size (c .before .shown-size .ensures) .1))
+
+sub-if2 : tie.Need-sub-if2 Inv-loop μ-loop
+sub-if2 c = search needs
 
 returns-2 : tie.Need-returns-2 Inv-loop μ-loop
-returns-2 c = search needs
-
-sub-if3 : tie.Need-sub-if3 Inv-loop μ-loop
-sub-if3 c = search needs
-
-returns-3 : tie.Need-returns-3 Inv-loop μ-loop
-returns-3 c = search needs
+returns-2 c =
+    let a = c .before .before .before .before .before .args in
+    let l = a .line in
+    let size : length (l .bytes) ≡ 128 = sym (length-map (l .bytes) (λ v. v)) ∙ c .before .before .before .before .before .good .1 .1 .0 .1 .1 .0 .1 .0 .1 in
+    put-none (shown l) (a .at) (a .out .now) (omega (arith, shown-first (l .bytes) (l .len) (c .before .before .shown-size .result) size (c .before .before .shown-size .ensures) .1))
 
 loop-holds : tie.Need-loop-holds Inv-loop μ-loop
-loop-holds c = search needs
+loop-holds c =
+    let a = c .before .before .before .before .before .args in
+    (omega arith, refl, paste-zero (a .out .now) (a .at) (a .line .bytes))
 
 array-read-out : tie.Need-array-read-out Inv-loop μ-loop
 array-read-out c = search needs
@@ -43,16 +58,27 @@ loop-less : tie.Need-loop-less Inv-loop μ-loop
 loop-less c = search needs
 
 loop-again : tie.Need-loop-again Inv-loop μ-loop
-loop-again c = search needs
+loop-again c =
+    let a = c .before .before .before .before .before .before .before .args in
+    let l = c .before .loop in
+    let size : length (a .line .bytes) ≡ 128 = sym (length-map (a .line .bytes) (λ v. v)) ∙ c .before .before .before .before .before .before .before .good .1 .1 .0 .1 .1 .0 .1 .0 .1 in
+    (omega arith, simp length-set (l .inv .1), rw (l .inv .2, add-one) (paste-suc (a .out .now) (a .at) (a .line .bytes) (l .i) 0 (omega arith) (omega arith)))
 
 add-result : tie.Need-add-result Inv-loop μ-loop
 add-result c = search needs
 
 same-length : tie.Need-same-length Inv-loop μ-loop
-same-length c = search needs
+same-length c = c .before .loop .inv .1
 
-returns-4 : tie.Need-returns-4 Inv-loop μ-loop
-returns-4 c = search needs
+returns-3 : tie.Need-returns-3 Inv-loop μ-loop
+returns-3 c =
+    let a = c .before .before .before .before .before .before .before .args in
+    let l = c .before .loop in
+    let n = c .before .before .before .before .shown-size in
+    let size : length (a .line .bytes) ≡ 128 = sym (length-map (a .line .bytes) (λ v. v)) ∙ c .before .before .before .before .before .before .before .good .1 .1 .0 .1 .1 .0 .1 .0 .1 in
+    let first = shown-first (a .line .bytes) (a .line .len) (n .result) size (n .ensures) in
+    let done : l .i ≡ n .result = omega arith in
+    put-paste (shown (a .line)) (a .at) (a .out .now) (a .line .bytes) (l .out) (n .result) _ (first .0) (first .1) (omega arith) (l .inv .2 ∙ rw done) refl
 
 pub put-line-spec : {M : Type 1} → statement M
 put-line-spec =
@@ -60,10 +86,10 @@ put-line-spec =
     (tie.spec
     Inv-loop
     μ-loop
+    shown-size-requires
     returns
+    sub-if2
     returns-2
-    sub-if3
-    returns-3
     loop-holds
     array-read-out
     add-out
@@ -73,4 +99,4 @@ put-line-spec =
     loop-again
     add-result
     same-length
-    returns-4)
+    returns-3)

@@ -1,5 +1,11 @@
 -- `opened` meets its contract.
+use lib.ListN.{length, take}
+use Rattle.history.specs.Answers.{roomOf}
+use Rattle.checker.specs.Exact.{openIn}
+use Rattle.console.specs.Say.{openText}
+use Rattle.console.specs.Respond.{settingsOf}
 use Rattle.console.proofs.SliceLaws.{front-size}
+use Rattle.console.proofs.RespondLaws.{called-is}
 use borrow.Author.Needs.{needs}
 use Rattle.console.proofs.respond.opened.Statement.{statement}
 use Rattle.console.proofs.respond.opened.Tie as tie
@@ -8,19 +14,13 @@ slice-relend-prefix-open-session : tie.Need-slice-relend-prefix-open-session
 slice-relend-prefix-open-session c = search needs
 
 slice-aggregate-open-session : tie.Need-slice-aggregate-open-session
-slice-aggregate-open-session c = let a = c .before .before .args in front-size (a .lent) (a .journal .now) (c .before .before .pre)
+slice-aggregate-open-session c = front-size (c .before .before .args .lent) (c .before .before .args .journal .now) (c .before .before .pre)
 
 open-session-requires : tie.Need-open-session-requires
 open-session-requires c κs = search needs
 
-slice-aggregate-one : tie.Need-slice-aggregate-one
-slice-aggregate-one c = search needs
-
-open-number-requires : tie.Need-open-number-requires
-open-number-requires c κs = search needs
-
-one-requires : tie.Need-one-requires
-one-requires c κs = search needs
+open-line-requires : tie.Need-open-line-requires
+open-line-requires c κs = search needs
 
 said-requires : tie.Need-said-requires
 said-requires c κs = search needs
@@ -29,7 +29,10 @@ same-length : tie.Need-same-length
 same-length c = search needs
 
 returns : tie.Need-returns
-returns c = search needs
+returns c =
+    let a = c .before .before .before .before .before .before .before .before .args in
+    let j = a .journal .now in
+    called-is _ (a .lent) (c .before .open-line .result) (c .said .result) (c .said .ensures) openText (openIn (roomOf (length (take (a .lent) j))) (a .session) (settingsOf (a .ratio) (a .ranks) (a .mode) (a .client) (a .gaps))) (a .session) j _ _ (c .before .before .before .before .before .open-session .ensures .exact) (c .before .open-line .ensures)
 
 pub opened-spec : {M : Type 1} → statement M
 opened-spec =
@@ -38,9 +41,7 @@ opened-spec =
     slice-relend-prefix-open-session
     slice-aggregate-open-session
     open-session-requires
-    slice-aggregate-one
-    open-number-requires
-    one-requires
+    open-line-requires
     said-requires
     same-length
     returns)

@@ -1,0 +1,25 @@
+-- `ask_line` meets its contract.
+use mathlib.Core.Path.{subst}
+use Rattle.text.specs.Text.{text}
+use Rattle.history.specs.Answers.{Reply}
+use Rattle.console.specs.Say.{IsLine, replyText}
+use borrow.Author.Needs.{needs}
+use Rattle.console.proofs.say.ask_line.Statement.{statement}
+use Rattle.console.proofs.say.ask_line.Tie as tie
+
+slice-aggregate-replied : tie.Need-slice-aggregate-replied
+slice-aggregate-replied c = search needs
+
+earliest-reply-requires : tie.Need-earliest-reply-requires
+earliest-reply-requires c κs = search needs
+
+replied-requires : tie.Need-replied-requires
+replied-requires c κs = search needs
+
+returns : tie.Need-returns
+unfolding text
+returns c = subst (λ (q : Reply). IsLine (replyText (text "ask") q) (c .replied .result)) (c .before .earliest-reply .ensures) (c .replied .ensures)
+
+pub ask-line-spec : {M : Type 1} → statement M
+ask-line-spec =
+    tie.close (tie.spec slice-aggregate-replied earliest-reply-requires replied-requires returns)
