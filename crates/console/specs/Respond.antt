@@ -9,8 +9,7 @@ use Rattle.timing.specs.declared.clocks.DramCycles.{DramCycles}
 use Rattle.timing.specs.Earliest.{Settings}
 use Rattle.history.specs.Answers.{Reply, Verdict, replyOf, roomOf}
 use Rattle.session.specs.declared.state.Session.{Session}
-use Rattle.journal.specs.Bytes.{recordSize}
-use Rattle.journal.specs.Restore.{bytesAfter}
+use Rattle.journal.specs.Restore.{bytesAfter, partOf}
 use Rattle.checker.specs.Exact.{
   openIn,
   offerIn,
@@ -69,7 +68,7 @@ pub record Outcome : Type 0 where
 
 -- a line and bytes, and a line alone
 abbrev pub prints : List ℕ → ℕ → List ℕ → Session → ℕ → List ℕ → Outcome
-prints line place printed s lent j = record { line = line; printed = printed; place = cond (eqb (length printed) 0) 0 place; state = s; lent = lent; journal = j }
+prints line place printed s lent j = record { line = line; printed = printed; place = place; state = s; lent = lent; journal = j }
 
 abbrev pub says : List ℕ → Session → ℕ → List ℕ → Outcome
 says line s lent j = prints line 0 [] s lent j
@@ -94,7 +93,7 @@ outcomeIn s j lent (Ask kind rank bank) gaps = says (askText (earliestIn s kind 
 outcomeIn s j lent Back gaps = called backText (takeBackIn (roomOf (length (take lent j))) s) s lent j
 outcomeIn s j lent Status gaps = says (statusText (statusIn s)) s lent j
 outcomeIn s j lent Stretch gaps =
-    let part = stretchIn s (take lent j) in prints (stretchText (length part)) (recordSize * s .number) part s lent j
+    let part = stretchIn s lent in prints (stretchText (part .size)) (part .start) (partOf part j) s lent j
 outcomeIn s j lent (Lend count) gaps = let n = min count (length j) in says (lendText n) s n j
 outcomeIn s j lent (Restore count) gaps = restores (restoreIn (take count j)) lent j
 outcomeIn s j lent (Poke at byte) gaps = cond (ltb at (length j)) (says (pokeText at byte) s lent (set j at byte)) (says malformedText s lent j)

@@ -24,7 +24,7 @@ use checker::calls::earliest;
 use checker::calls::offer;
 use checker::calls::open_session;
 use checker::calls::status;
-use checker::calls::stretch;
+use checker::calls::stretch_place;
 use checker::calls::take_back;
 use checker::restore::restore;
 use session::state::Session;
@@ -148,19 +148,15 @@ fn stretched(session: Session, journal: &[u8], lent: usize) -> Response
     requires { ⌜ lent ≤ length (now journal) ⌝ }
     ensures { λ r. ⌜ Responds (outcomeIn session (now (journal .entry)) lent asks.Stretch []) r (now (journal .entry)) ⌝ }
 {
-    let part = stretch(session, &journal[..lent]);
-    let count = part.len();
-    let line = stretch_line(count as u64);
-    if count == 0 {
-        return said(session, lent, line);
-    }
-    let from = session.number as usize * 64;
+    let part = stretch_place(session, lent);
+    let start = part.start;
+    let size = part.size;
     Response {
         session,
         lent,
-        line,
-        hex_from: from,
-        hex_count: count,
+        line: stretch_line(size as u64),
+        hex_from: start,
+        hex_count: size,
     }
 }
 
@@ -202,14 +198,10 @@ fn shown(session: Session, journal: &[u8], lent: usize, from: u64, count: u64) -
     if len - count < from {
         return refused(session, lent);
     }
-    let line = bytes_line(count);
-    if count == 0 {
-        return said(session, lent, line);
-    }
     Response {
         session,
         lent,
-        line,
+        line: bytes_line(count),
         hex_from: from as usize,
         hex_count: count as usize,
     }

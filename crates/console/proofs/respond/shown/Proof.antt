@@ -3,7 +3,8 @@ use Prim.Native.Nat.{_+_}
 use native.Mathlib.Omega.{arith}
 use borrow.Author.Tests.{lt-leb, le-leb}
 use lib.ListN.{length}
-use Rattle.console.proofs.RespondLaws.{bytes-none, bytes-some}
+use Rattle.console.specs.Say.{bytesText}
+use Rattle.console.proofs.RespondLaws.{prints-is}
 use borrow.Author.Needs.{needs}
 use Rattle.console.proofs.respond.shown.Statement.{statement}
 use Rattle.console.proofs.respond.shown.Tie as tie
@@ -27,30 +28,11 @@ returns-2 c =
 bytes-line-requires : tie.Need-bytes-line-requires
 bytes-line-requires c κs = search needs
 
-said-requires : tie.Need-said-requires
-said-requires c κs = search needs
-
 returns-3 : tie.Need-returns-3
 returns-3 c =
-    let a = c .before .before .before .before .before .before .args in
+    let a = c .before .before .before .before .args in
     rw (le-leb (a .from + a .count) (length (a .journal .now)) (omega arith))
-    (bytes-none (a .session) (a .lent) (a .from) (a .count) (a .journal .now) (c .before .before .bytes-line .result) (c .before .before .bytes-line .ensures) (c .said .result) (c .said .ensures) (c .before .if3 .taken))
-
-returns-4 : tie.Need-returns-4
-returns-4 c =
-    let a = c .before .before .before .before .before .args in
-    rw (le-leb (a .from + a .count) (length (a .journal .now)) (omega arith))
-    (bytes-some (a .session) (a .lent) (a .from) (a .count) (a .journal .now) (c .before .bytes-line .result) (c .before .bytes-line .ensures) (omega arith) (c .if3 .left))
+    (prints-is (bytesText (a .count)) (a .journal .now) (a .session) (a .lent) (a .from) (a .count) (c .bytes-line .result) (c .bytes-line .ensures) (omega arith))
 
 pub shown-spec : {M : Type 1} → statement M
-shown-spec =
-    tie.close
-    (tie.spec
-    refused-requires
-    returns
-    refused-requires-2
-    returns-2
-    bytes-line-requires
-    said-requires
-    returns-3
-    returns-4)
+shown-spec = tie.close (tie.spec refused-requires returns refused-requires-2 returns-2 bytes-line-requires returns-3)
