@@ -1,3 +1,4 @@
+pub mod Examples
 pub mod OutputLaws
 pub mod PlaceLaws
 pub mod RequestLaws

@@ -1,18 +1,16 @@
 -- Laws of the forms.
 use mathlib.Core.Path.{_≡_, refl, sym, _∙_, ap}
-use mathlib.Core.Bool.{Bool, true, false, cond, not, _&&_, and-false, true≢false}
-use mathlib.Core.List.{List, [], _∷_, _++_, map}
+use mathlib.Core.Bool.{Bool, true, false, _&&_, true≢false}
+use mathlib.Core.List.{List, [], _∷_, map}
 use Prim.Native.Nat.{ℕ, zero, suc, _+_, _-_, _≤_, _<_}
 use native.Mathlib.Numerals.{add-one}
 use native.Mathlib.Omega.{arith}
-use lib.Dec.{eqb, leb}
-use lib.ListN.{length, take, drop, getD, set, length-drop, length-set, length-map, List·getD-map, drop-of-length-le}
+use lib.Dec.{leb}
+use lib.ListN.{length, take, drop, getD, set, length-drop, length-map, List·getD-map, drop-of-length-le}
 use lib.Seq.{drop-cons, take-suc, take-suc-set, take-all, getD-drop}
 use borrow.Author.Tests.{leb-true, le-leb, lt-leb, eq-eqb, ne-eqb, le-ltb}
 use Rattle.text.specs.Text.{text}
 use Rattle.timing.specs.declared.clocks.DramCycles.{DramCycles}
-use Rattle.console.specs.declared.words.Number.{Number}
-use Rattle.console.specs.declared.words.Number.the-variants.{Value, NoNumber}
 use Rattle.console.specs.declared.requests.Request.the-variants.{Nothing}
 use Rattle.console.specs.Words.{before, frontWord, laterWords, words, sameWord, numbersOf}
 use Rattle.console.specs.Requests.{namedKind, kindNumber, kindedOf, requestOf, gap, withoutGaps, allAtMost, openForm, askedBy, asked}

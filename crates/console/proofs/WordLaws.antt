@@ -2,7 +2,7 @@
 use mathlib.Core.Path.{_≡_, refl, sym, _∙_, ap}
 use mathlib.Core.Bool.{Bool, true, false, cond, not, _&&_, and-false, true≢false}
 use mathlib.Core.List.{List, [], _∷_, _++_, append-assoc, append-nil}
-use Prim.Native.Nat.{ℕ, zero, suc, _+_, _-_, _*_, _/_, _≤_, _<_, min}
+use Prim.Native.Nat.{ℕ, suc, _+_, _-_, _*_, _/_, _≤_, _<_, min}
 use native.Mathlib.Numerals.{add-one}
 use native.Mathlib.Omega.{arith}
 use lib.Dec.{eqb, leb}
@@ -10,9 +10,7 @@ use lib.ListN.{length, take, drop, getD, set, replicate, length-take, length-dro
 use lib.Seq.{drop-cons, drop-drop, take-suc-set, drop-set-lt, getD-take, getD-drop}
 use borrow.Author.Tests.{leb-true, leb-false, lt-leb, le-leb, eq-eqb, ne-eqb}
 use Rattle.console.specs.declared.words.Word.{Word}
-use Rattle.console.specs.declared.words.Number.{Number}
 use Rattle.console.specs.declared.words.Number.the-variants.{Value, NoNumber}
-use Rattle.console.specs.declared.words.Numbers.{Numbers}
 use Rattle.console.specs.Places.{leading, past}
 use Rattle.console.specs.Words.{
   isBlank,

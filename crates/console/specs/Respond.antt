@@ -80,6 +80,10 @@ called line v s lent j = says (line (replyOf v)) (stateAfter s v) lent (bytesAft
 abbrev pub settingsOf : ℕ → ℕ → ℕ → ℕ → List DramCycles → Settings
 settingsOf ratio ranks mode client gaps = record { opening = record { ratio = ratio; ranks = ranks; mode = mode; client = client }; gaps = gaps }
 
+-- more than there is, is all of it
+abbrev pub lends : ℕ → Session → List ℕ → Outcome
+lends count s j = let n = min count (length j) in says (lendText n) s n j
+
 abbrev pub restores : RestoredIn → ℕ → List ℕ → Outcome
 restores v lent j = says (restoreText (restoredNumber v) (restoredAt v)) (restoredState v) lent j
 
@@ -94,7 +98,7 @@ outcomeIn s j lent Back gaps = called backText (takeBackIn (roomOf (length (take
 outcomeIn s j lent Status gaps = says (statusText (statusIn s)) s lent j
 outcomeIn s j lent Stretch gaps =
     let part = stretchIn s lent in prints (stretchText (part .size)) (part .start) (partOf part j) s lent j
-outcomeIn s j lent (Lend count) gaps = let n = min count (length j) in says (lendText n) s n j
+outcomeIn s j lent (Lend count) gaps = lends count s j
 outcomeIn s j lent (Restore count) gaps = restores (restoreIn (take count j)) lent j
 outcomeIn s j lent (Poke at byte) gaps = cond (ltb at (length j)) (says (pokeText at byte) s lent (set j at byte)) (says malformedText s lent j)
 outcomeIn s j lent (Bytes from count) gaps =

@@ -3,7 +3,7 @@ ghost use mathlib.Core.Path.{_≡_};
 ghost use mathlib.Core.Bool.{true};
 ghost use mathlib.Core.List.{map};
 ghost use lib.ListN.{drop};
-ghost use Rattle.console.specs.Words.{words, numbersOf};
+ghost use Rattle.console.specs.Words.{words};
 ghost use Rattle.console.specs.Requests.{kindNumber, kindedOf, ifGood, offerForm, askForm, lendForm, restoreForm, pokeForm, bytesForm, requestOf, gap, withoutGaps, allAtMost, openForm, askedBy, asked};
 use crate::words::Number;
 use crate::words::Numbers;

@@ -2,11 +2,11 @@
 ghost use mathlib.Core.Path.{_≡_};
 ghost use mathlib.Core.List.{[]};
 ghost use Prim.Native.Nat.{_≤_, min};
-ghost use lib.ListN.{length};
-ghost use Rattle.checker.specs.Exact.{earliestIn, statusIn};
+ghost use lib.ListN.{length, take};
+ghost use Rattle.checker.specs.Exact.{earliestIn, statusIn, restoreIn};
 ghost use Rattle.console.specs.declared.requests.Request.the-variants as asks;
-ghost use Rattle.console.specs.Say.{IsLine, askText, statusText, malformedText};
-ghost use Rattle.console.specs.Respond.{outcomeIn, outcome, Responds, Says};
+ghost use Rattle.console.specs.Say.{askText, statusText, malformedText};
+ghost use Rattle.console.specs.Respond.{lends, restores, outcomeIn, outcome, Responds, Says};
 use crate::requests::Parsed;
 use crate::requests::Request;
 use crate::say::ask_line;
@@ -160,15 +160,15 @@ fn stretched(session: Session, journal: &[u8], lent: usize) -> Response
     }
 }
 
-fn lend(session: Session, journal: &[u8], lent: usize, count: u64) -> Response
-    ensures { λ r. ⌜ Responds (outcomeIn session (now (journal .entry)) lent (asks.Lend count) []) r (now (journal .entry)) ⌝ }
+fn lend(session: Session, journal: &[u8], count: u64) -> Response
+    ensures { λ r. ⌜ Responds (lends count session (now (journal .entry))) r (now (journal .entry)) ⌝ }
 {
     let n = smaller(count, journal.len());
     said(session, n, lend_line(n as u64))
 }
 
-fn restored(session: Session, journal: &[u8], lent: usize, count: u64) -> Response
-    ensures { λ r. ⌜ Responds (outcomeIn session (now (journal .entry)) lent (asks.Restore count) []) r (now (journal .entry)) ⌝ }
+fn restored(journal: &[u8], lent: usize, count: u64) -> Response
+    ensures { λ r. ⌜ Responds (restores (restoreIn (take count (now (journal .entry)))) lent (now (journal .entry))) r (now (journal .entry)) ⌝ }
 {
     let n = smaller(count, journal.len());
     let done = restore(&journal[..n]);
@@ -233,8 +233,8 @@ pub fn respond(session: Session, journal: &mut [u8], lent: usize, parsed: Parsed
         Request::Back => taken_back(session, journal, lent),
         Request::Status => told(session, lent),
         Request::Stretch => stretched(session, journal, lent),
-        Request::Lend(count) => lend(session, journal, lent, count),
-        Request::Restore(count) => restored(session, journal, lent, count),
+        Request::Lend(count) => lend(session, journal, count),
+        Request::Restore(count) => restored(journal, lent, count),
         Request::Poke(at, byte) => poked(session, journal, lent, at, byte),
         Request::Bytes(from, count) => shown(session, journal, lent, from, count),
     }

@@ -1,6 +1,5 @@
 -- `if_good` meets its contract.
 use borrow.Author.Tests.{not-true, not-false}
-use borrow.Author.Needs.{needs}
 use Rattle.console.proofs.requests.if_good.Statement.{statement}
 use Rattle.console.proofs.requests.if_good.Tie as tie
 

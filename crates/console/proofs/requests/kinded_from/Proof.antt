@@ -1,5 +1,4 @@
 -- `kinded_from` meets its contract.
-use mathlib.Core.Path.{sym, _∙_}
 use lib.ListN.{drop}
 use Rattle.console.specs.Words.{words}
 use Rattle.console.proofs.WordLaws.{word-places, wordBytes, next-is, next-none}

@@ -1,5 +1,5 @@
 -- `request_of` meets its contract.
-use mathlib.Core.Path.{refl, sym, _∙_, ap}
+use mathlib.Core.Path.{sym, _∙_, ap}
 use Rattle.text.specs.Text.{text}
 use Rattle.console.specs.declared.requests.Request.the-variants.{Back, Status, Stretch}
 use Rattle.console.specs.Requests.{ifGood, offerForm, askForm, lendForm, restoreForm, pokeForm, bytesForm}

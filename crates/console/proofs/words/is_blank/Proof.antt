@@ -1,6 +1,5 @@
 -- `is_blank` meets its contract.
 use borrow.Author.Tests.{eq-eqb, ne-eqb}
-use borrow.Author.Needs.{needs}
 use Rattle.console.proofs.words.is_blank.Statement.{statement}
 use Rattle.console.proofs.words.is_blank.Tie as tie
 

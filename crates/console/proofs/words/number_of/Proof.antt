@@ -1,7 +1,6 @@
 -- `number_of` meets its contract.
-use mathlib.Core.Path.{_≡_, sym, _∙_}
+use mathlib.Core.Path.{sym}
 use Prim.Native.Nat.{_-_}
-use native.Mathlib.Omega.{arith}
 use lib.ListN.{length}
 use borrow.Author.Tests.{eq-eqb}
 use Rattle.console.proofs.WordLaws.{Reading, reading-start, reading-bad, reading-large, reading-next, reading-end}

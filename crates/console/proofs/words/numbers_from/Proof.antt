@@ -1,8 +1,7 @@
 -- `numbers_from` meets its contract: the loop reads word after word.
-use mathlib.Core.Path.{_≡_, sym, _∙_}
+use mathlib.Core.Path.{sym, _∙_}
 use Prim.Native.Nat.{_-_}
-use native.Mathlib.Omega.{arith}
-use lib.ListN.{length, drop}
+use lib.ListN.{drop}
 use Rattle.console.specs.Words.{words}
 use Rattle.console.proofs.WordLaws.{word-places, wordBytes, next-is, next-none, next-empty, next-some, many-numbers, Counting, counting-start, counting-bad, counting-next, counting-more, counting-end}
 use borrow.Author.Needs.{needs}
