@@ -14,8 +14,12 @@ use std::io::{BufRead, BufReader, Read, Write};
 use std::os::unix::fs::{MetadataExt, PermissionsExt};
 use std::os::unix::process::{CommandExt, ExitStatusExt};
 use std::path::Path;
+use std::sync::mpsc;
 use std::thread;
 use std::time::{Duration, Instant};
+
+/// A player at a pipe does not wait longer than this for one answer.
+const ANSWER_LIMIT: Duration = Duration::from_secs(10);
 
 const OPEN_A: &str = "open 4 1 0 7 60 8 18 42 8 8 6 20 7 30 30 25 40 18 21 2 280 140 90 32";
 
@@ -105,17 +109,25 @@ fn a_player_at_a_pipe_gets_each_answer() {
     let mut model = FileConsole::over(b"");
     let mut child = spawn(&mut command(&bench, &[&path]));
     let mut input = child.stdin.take().unwrap();
-    let mut output = BufReader::new(child.stdout.take().unwrap());
-    let mut line = String::new();
-    output.read_line(&mut line).unwrap();
-    assert_eq!(line, "restore 0 0\n");
+    let output = BufReader::new(child.stdout.take().unwrap());
+    let (tell, answers) = mpsc::channel();
+    thread::spawn(move || {
+        let lines = output.lines().map_while(Result::ok);
+        lines.take_while(|l| tell.send(l.clone()).is_ok()).count()
+    });
+    let mut expect = |answer: &str, about: &str| match answers.recv_timeout(ANSWER_LIMIT) {
+        Ok(line) => assert_eq!(line, answer, "{about}"),
+        Err(_) => {
+            let _ = child.kill();
+            panic!("no answer within {ANSWER_LIMIT:?}: {about}");
+        }
+    };
+    expect("restore 0 0", "the start");
     for step in steps(&mut rng, &mut model, 300) {
         input.write_all(step.sent.as_bytes()).unwrap();
         input.write_all(b"\n").unwrap();
         if let Some(answer) = &step.answer {
-            line.clear();
-            output.read_line(&mut line).unwrap();
-            assert_eq!(line.trim_end(), answer, "{}", step.sent);
+            expect(answer, &step.sent);
         }
     }
     drop(input);
@@ -605,6 +617,27 @@ fn what_cannot_be_made_read_or_named() {
         ran.said()
     );
     assert_file(&new, b"", "a new file");
+}
+
+/// Where a standard descriptor is closed the file would take its number, and
+/// answers would be written over records.
+#[test]
+fn a_closed_standard_descriptor() {
+    let _turn = turn();
+    let (bench, folder) = (bench(), Folder::new());
+    let path = folder.at("journal");
+    fs::write(&path, one_opening()).unwrap();
+    for closed in ["<&-", ">&-", "2>&-", "<&- >&-", "<&- >&- 2>&-"] {
+        let mut shell = command(Path::new("sh"), &[]);
+        let line = format!("exec \"$0\" \"$1\" {closed}");
+        shell.args(["-c", &line]).args([&bench, &path]);
+        let ran = run(&mut shell, format!("{OPEN_A}\nstatus\n").as_bytes());
+        ran.ended_by_itself();
+        assert_eq!(ran.text(), "", "{closed}");
+        let told = ran.said().contains("Start with all three open");
+        assert_eq!(told, !closed.contains("2>&-"), "{closed}: {}", ran.said());
+        assert_file(&path, &one_opening(), closed);
+    }
 }
 
 // A full disk.

@@ -44,7 +44,7 @@ fn is_said(line: Line) -> bool {
     !written.failed
 }
 
-// What the file's bytes restore, and then the trace, if it is a journal.
+// What the file's bytes restore, and then the trace, if it is a journal. The bytes read always lie within the journal.
 fn play_restored(path: &[u8], file: i32, journal: &mut [u8], bytes: usize) {
     if journal.len() < bytes {
         return;
