@@ -107,6 +107,49 @@ fn a_day_with_a_mains_failure() {
     assert_eq!(listed.text(), text("day.list"));
 }
 
+/// The guide's commands, typed into a shell as they stand there, give what it
+/// says: a client's stretch, his lines of the listing, a bad last record cut off.
+#[test]
+fn the_guide_does_what_it_says() {
+    let _turn = turn();
+    let folder = Folder::new();
+    let path = folder.at("day.journal");
+    let played = run(&mut command(&bench(), &[&path]), &bytes("day-1.trace"));
+    let guide = Path::new(env!("CARGO_MANIFEST_DIR")).join("../docs/GUIDE.md");
+    let guide = fs::read_to_string(guide).unwrap();
+    let typed = |start: &str| -> String {
+        let found = guide
+            .lines()
+            .find(|l| l.starts_with(&format!("    {start}")));
+        let line = found.unwrap_or_else(|| panic!("`{start}` is not in the guide"));
+        let line = line.replace("target/bin/list", "\"$0\"");
+        let mut shell = command(Path::new("sh"), &[]);
+        shell.args(["-c", &line]).arg(list_program());
+        run(shell.current_dir(&folder.0), b"").text()
+    };
+    typed("dd if=day.journal");
+    let hex = |name: &str| -> String {
+        let bytes = fs::read(folder.at(name)).unwrap();
+        bytes.iter().map(|b| format!("{b:02x}")).collect()
+    };
+    let told = played.text();
+    let stretch = told.lines().find(|l| l.starts_with("stretch ")).unwrap();
+    assert_eq!(stretch, format!("stretch 576 {}", hex("client7.stretch")));
+    let his = typed("target/bin/list < day.journal | awk");
+    assert_eq!(his, "9 open 9\n10 ACT 0 0 0\n11 RD 0 0 5\n12 ACT 0 1 6\n");
+    // Record 12 is the last of the day so far; it is spoiled, and cut off as the guide says.
+    let mut bad = fs::read(&path).unwrap();
+    bad[64 * 12 + 63] = 1;
+    fs::write(&path, &bad).unwrap();
+    let refused = run(&mut command(&bench(), &[&path]), b"");
+    assert_eq!(refused.text(), "restore 11 12\n");
+    typed("cp day.journal");
+    typed("truncate -s");
+    assert_eq!(fs::read(folder.at("day.journal.bad")).unwrap(), bad);
+    let again = run(&mut command(&bench(), &[&path]), b"status\n");
+    assert_eq!(again.text(), "restore 0 0\nstatus 0 9 9 2 2 5 12\n");
+}
+
 // Traces of power tools.
 
 fn recipe(csv: &[u8], rank: Option<u32>) -> String {
