@@ -246,6 +246,11 @@ fn assert_broken(
         assert_eq!(ran.text(), expected, "{plan}");
         let said = ran.said();
         assert!(said.ends_with('\n') && said.lines().count() == 1, "{said}");
+        let advice = match plan.starts_with("pwrite") {
+            true => "room",
+            false => "start with the copy",
+        };
+        assert!(said.contains(advice), "{plan}: {said}");
     }
     let mut file = base.to_vec();
     for put in &puts(steps)[..n - 1] {
