@@ -155,18 +155,19 @@ pub fn shim() -> &'static Path {
     static SHIM: OnceLock<PathBuf> = OnceLock::new();
     SHIM.get_or_init(|| {
         let source = Path::new(env!("CARGO_MANIFEST_DIR")).join("shim/shim.c");
-        let name = format!("shim-{}.so", std::process::id());
-        let made = Path::new(env!("CARGO_TARGET_TMPDIR")).join(name);
+        let folder = Path::new(env!("CARGO_TARGET_TMPDIR"));
+        let made = folder.join(format!("shim-{}.so", std::process::id()));
+        let kept = folder.join("shim.so");
         let status = Command::new("gcc")
-            .args([
-                "-O1", "-Wall", "-Wextra", "-Werror", "-shared", "-fPIC", "-o",
-            ])
+            .args(["-O1", "-Wall", "-Wextra", "-shared", "-fPIC", "-o"])
             .args([made.as_path(), source.as_path()])
             .arg("-ldl")
             .status()
             .expect("gcc builds the shim");
         assert!(status.success(), "gcc: {status}");
-        made
+        // A run at the same time keeps the one that it has.
+        fs::rename(&made, &kept).unwrap();
+        kept
     })
 }
 
