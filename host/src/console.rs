@@ -1,4 +1,4 @@
-//! The console's text language over the model, the journal in memory.
+//! The console's text language over the model, the journal's memory with it.
 
 use crate::model::{Answer, Command, State, NAMES};
 
@@ -11,6 +11,8 @@ pub struct Console {
     pub state: State,
     pub journal: Vec<u8>,
     pub lent: usize,
+    /// The journal is kept in a file: `poke` and `restore` are malformed.
+    pub in_file: bool,
     /// Bytes of a line whose newline has not come yet.
     begun: Vec<u8>,
 }
@@ -69,6 +71,7 @@ impl Console {
             state: State::fresh(),
             journal: vec![0; JOURNAL],
             lent: JOURNAL,
+            in_file: false,
             begun: Vec::new(),
         }
     }
@@ -126,6 +129,7 @@ impl Console {
     fn words(&mut self, words: &[&[u8]]) -> Option<String> {
         let lent = &mut self.journal[..self.lent];
         match (words[0], &words[1..]) {
+            (b"poke" | b"restore", _) if self.in_file => None,
             (b"open", [ratio, ranks, mode, client, given @ ..]) => {
                 let numbers = (long(ratio)?, long(ranks)?, long(mode)?);
                 let client = number(client, u64::from(u32::MAX))? as u32;

@@ -3,6 +3,7 @@
 //! nothing with the product and is held against it from outside.
 
 pub mod console;
+pub mod file;
 pub mod generate;
 pub mod listing;
 pub mod model;

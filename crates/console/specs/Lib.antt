@@ -4,3 +4,4 @@ pub mod Words
 pub mod Requests
 pub mod Respond
 pub mod Say
+pub mod InFile

@@ -107,7 +107,7 @@ fn take_back_number(answer: TakeBackAnswer) -> u64
 }
 
 // A restore's number, and the record number beside it.
-fn restore_number(answer: RestoreAnswer) -> u64
+pub fn restore_number(answer: RestoreAnswer) -> u64
     ensures { λ r. ⌜ r ≡ restoreNumbered answer ⌝ }
 {
     match answer {
@@ -117,7 +117,7 @@ fn restore_number(answer: RestoreAnswer) -> u64
     }
 }
 
-fn restore_beside(answer: RestoreAnswer) -> u64
+pub fn restore_beside(answer: RestoreAnswer) -> u64
     ensures { λ r. ⌜ r ≡ restoreBeside answer ⌝ }
 {
     match answer {

@@ -1,10 +1,13 @@
 // Standard input to standard output: the listing of a journal.
 ghost use mathlib.Core.Path.{_≡_};
 ghost use lib.ListN.{length};
+use console::words::same;
 use libc::STDIN_FILENO;
 use libc::STDOUT_FILENO;
 use listing::records::list_part;
 use session::state::Session;
+
+mod help;
 
 // Room for the lines of a full read, and for the end line.
 fn lines_buffer() -> [u8; 65600]
@@ -14,7 +17,7 @@ fn lines_buffer() -> [u8; 65600]
 }
 
 // A read that is not full is the last. Record 16,777,216 ends the listing, so that no run takes more turns.
-fn main() {
+fn list_all() {
     let mut input = io::large_buffer();
     let mut out = lines_buffer();
     let mut session = Session::fresh();
@@ -33,4 +36,23 @@ fn main() {
         session = next;
         turns -= 1;
     }
+}
+
+// One argument: the page is asked for, or none was expected.
+fn explain(word: &[u8]) {
+    if same(word, b"--help") {
+        help::print();
+        return;
+    }
+    help::expected();
+}
+
+fn main() {
+    if os::arg_count() < 2 {
+        list_all();
+        return;
+    }
+    let mut word = io::buffer();
+    let len = os::arg(1, &mut word);
+    explain(&word[..len]);
 }

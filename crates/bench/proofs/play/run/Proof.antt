@@ -1,10 +1,9 @@
 -- `run` meets its contract.
 use mathlib.Core.Path.{_≡_}
 use lib.ListN.{length}
-use Prim.Native.Nat.{_+_, _*_, _-_, _≤_, _<_}
 use borrow.Author.Needs.{needs}
-use Rattle.bench.proofs.run.Statement.{statement}
-use Rattle.bench.proofs.run.Tie as tie
+use Rattle.bench.proofs.play.run.Statement.{statement}
+use Rattle.bench.proofs.play.run.Tie as tie
 
 abbrev Inv-loop : tie.InvT-loop
 Inv-loop journal₀ input₀ out₀ console₀ kept₀ turns₀ journal input out console kept turns = (length input ≡ 69632) × (length out ≡ 65536) × (length journal ≡ length journal₀)
@@ -18,9 +17,6 @@ input-buffer-requires c κs = search needs
 large-buffer-requires : tie.Need-large-buffer-requires Inv-loop μ-loop
 large-buffer-requires c κs = search needs
 
-fresh-requires : tie.Need-fresh-requires Inv-loop μ-loop
-fresh-requires c κs = search needs
-
 loop-holds : tie.Need-loop-holds Inv-loop μ-loop
 loop-holds c = search needs
 
@@ -32,6 +28,9 @@ slice-aggregate-read-on-2 c = search needs
 
 read-on-requires : tie.Need-read-on-requires Inv-loop μ-loop
 read-on-requires c κs = search needs
+
+has-ended-requires : tie.Need-has-ended-requires Inv-loop μ-loop
+has-ended-requires c κs = search needs
 
 same-length : tie.Need-same-length Inv-loop μ-loop
 same-length c = search needs
@@ -62,11 +61,11 @@ run-spec =
     μ-loop
     input-buffer-requires
     large-buffer-requires
-    fresh-requires
     loop-holds
     slice-aggregate-read-on
     slice-aggregate-read-on-2
     read-on-requires
+    has-ended-requires
     same-length
     returns
     sub-turns

@@ -1,8 +1,8 @@
 -- `flush` meets its contract.
 use Rattle.console.proofs.SliceLaws.{front-size}
 use borrow.Author.Needs.{needs}
-use Rattle.bench.proofs.flush.Statement.{statement}
-use Rattle.bench.proofs.flush.Tie as tie
+use Rattle.bench.proofs.gather.flush.Statement.{statement}
+use Rattle.bench.proofs.gather.flush.Tie as tie
 
 returns : tie.Need-returns
 returns c = search needs
@@ -16,9 +16,23 @@ slice-aggregate-write-all c = let a = c .before .before .before .before .args in
 write-all-requires : tie.Need-write-all-requires
 write-all-requires c κs = search needs
 
+slice-aggregate-fail : tie.Need-slice-aggregate-fail
+slice-aggregate-fail c = search needs
+
+fail-requires : tie.Need-fail-requires
+fail-requires c κs = search needs
+
 returns-3 : tie.Need-returns-3
 returns-3 c = search needs
 
 pub flush-spec : {M : Type 1} → statement M
 flush-spec =
-    tie.close (tie.spec returns returns-2 slice-aggregate-write-all write-all-requires returns-3)
+    tie.close
+    (tie.spec
+    returns
+    returns-2
+    slice-aggregate-write-all
+    write-all-requires
+    slice-aggregate-fail
+    fail-requires
+    returns-3)

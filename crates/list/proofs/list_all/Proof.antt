@@ -1,10 +1,10 @@
--- `main` is safe and ends: the turns left fall, and both buffers keep their length.
+-- `list_all` is safe and ends: the turns left fall, and both buffers keep their length.
 use mathlib.Core.Path.{_≡_, sym}
 use lib.ListN.{length}
 use lib.Seq.{length-take-le}
 use borrow.Author.Needs.{needs}
-use Rattle.list.proofs.main.Statement.{statement}
-use Rattle.list.proofs.main.Tie as tie
+use Rattle.list.proofs.list_all.Statement.{statement}
+use Rattle.list.proofs.list_all.Tie as tie
 
 abbrev Inv-loop : tie.InvT-loop
 Inv-loop input₀ out₀ session₀ turns₀ input out session turns = (65536 ≡ length input) × (65600 ≡ length out)
@@ -69,8 +69,8 @@ loop-again c = search needs
 returns-3 : tie.Need-returns-3 Inv-loop μ-loop
 returns-3 c = search needs
 
-pub main-spec : {M : Type 1} → statement M
-main-spec =
+pub list-all-spec : {M : Type 1} → statement M
+list-all-spec =
     tie.close
     (tie.spec
     Inv-loop

@@ -1,8 +1,8 @@
 -- `read_on` meets its contract.
 use Rattle.console.proofs.SliceLaws.{front-size}
 use borrow.Author.Needs.{needs}
-use Rattle.bench.proofs.read_on.Statement.{statement}
-use Rattle.bench.proofs.read_on.Tie as tie
+use Rattle.bench.proofs.play.read_on.Statement.{statement}
+use Rattle.bench.proofs.play.read_on.Tie as tie
 
 read-behind-requires : tie.Need-read-behind-requires
 read-behind-requires c κs = search needs

@@ -3,9 +3,9 @@ use native.Mathlib.Omega.{arith}
 use borrow.Author.Needs.{needs}
 use mathlib.Core.Path.{_≡_}
 use lib.ListN.{length}
-use Prim.Native.Nat.{_+_, _*_, _-_, _≤_, _<_}
-use Rattle.bench.proofs.say_bytes.Statement.{statement}
-use Rattle.bench.proofs.say_bytes.Tie as tie
+use Prim.Native.Nat.{_-_, _≤_}
+use Rattle.bench.proofs.gather.say_bytes.Statement.{statement}
+use Rattle.bench.proofs.gather.say_bytes.Tie as tie
 
 abbrev Inv-loop : tie.InvT-loop
 Inv-loop out₀ bytes said₀ at₀ out said at = (at ≤ length bytes) × (length out ≡ length out₀)

@@ -1,8 +1,8 @@
 -- `last_turn` meets its contract.
 use Rattle.console.proofs.SliceLaws.{front-size}
 use borrow.Author.Needs.{needs}
-use Rattle.bench.proofs.last_turn.Statement.{statement}
-use Rattle.bench.proofs.last_turn.Tie as tie
+use Rattle.bench.proofs.play.last_turn.Statement.{statement}
+use Rattle.bench.proofs.play.last_turn.Tie as tie
 
 returns : tie.Need-returns
 returns c = search needs
