@@ -2,7 +2,11 @@
 //! the listing, the console over the model, and a maker of scripts. It shares
 //! nothing with the product and is held against it from outside.
 
+pub mod checker;
 pub mod console;
+pub mod ffi;
 pub mod generate;
 pub mod listing;
 pub mod model;
+pub mod source000;
+pub mod twin;
