@@ -76,9 +76,7 @@ pub fn stretch(session: &Session, size: usize) -> Part {
 pub fn list_part(session: &mut Session, part: &[u8], last: bool, out: &mut [u8]) -> (usize, bool) {
     let (from, size) = (part.as_ptr(), part.len());
     let (to, room) = (out.as_mut_ptr(), out.len());
-    let done = unsafe {
-        ffi::rossinhiu_list_part(*session, from, size, u64::from(last), to, room)
-    };
+    let done = unsafe { ffi::rossinhiu_list_part(*session, from, size, u64::from(last), to, room) };
     *session = done.session;
     (done.written, done.ended == 1)
 }

@@ -6,6 +6,7 @@ pub mod checker;
 pub mod console;
 pub mod ffi;
 pub mod generate;
+pub mod library;
 pub mod listing;
 pub mod model;
 pub mod source000;

@@ -33,9 +33,15 @@ impl Dice {
     }
 
     fn command(&mut self) -> Command {
-        let kind = [1, 1, 1, 1, 1, 2, 2, 2, 2, 2, 2, 3, 3, 3, 3, 4, 4, 4, 7, 7, 5, 6];
+        let kind = [
+            1, 1, 1, 1, 1, 2, 2, 2, 2, 2, 2, 3, 3, 3, 3, 4, 4, 4, 7, 7, 5, 6,
+        ];
         let kind = kind[self.below(22) as usize];
-        let bank = if kind == 5 || kind == 6 { 0 } else { self.below(16) };
+        let bank = if kind == 5 || kind == 6 {
+            0
+        } else {
+            self.below(16)
+        };
         Command {
             kind,
             rank: self.below(RANKS),
@@ -54,14 +60,25 @@ fn journal(records: usize) -> (Vec<u8>, Vec<Command>) {
     for n in 0..records {
         if n % 10_000 == 0 {
             let settings = (RATIO, RANKS, MODE);
-            assert_eq!(twin::open(&mut state, &mut bytes, settings, 7, &SETTINGS_A), 0);
+            assert_eq!(
+                twin::open(&mut state, &mut bytes, settings, 7, &SETTINGS_A),
+                0
+            );
         } else if n % 97 == 50 {
             assert_eq!(twin::take_back(&mut state, &mut bytes), 0);
         } else {
             let mut command = dice.command();
             command.cycle = twin::earliest(&state, command.kind, command.rank, command.bank).cycle;
-            let Command { kind, rank, bank, cycle } = command;
-            assert_eq!(twin::offer(&mut state, &mut bytes, kind, rank, bank, cycle).number, 0);
+            let Command {
+                kind,
+                rank,
+                bank,
+                cycle,
+            } = command;
+            assert_eq!(
+                twin::offer(&mut state, &mut bytes, kind, rank, bank, cycle).number,
+                0
+            );
             if commands.len() < OFFERS {
                 commands.push(command);
             }
@@ -129,8 +146,16 @@ fn trace() -> Vec<Command> {
     for _ in 0..OFFERS {
         let mut command = dice.command();
         command.cycle = twin::earliest(&state, command.kind, command.rank, command.bank).cycle;
-        let Command { kind, rank, bank, cycle } = command;
-        assert_eq!(twin::offer(&mut state, &mut room, kind, rank, bank, cycle).number, 0);
+        let Command {
+            kind,
+            rank,
+            bank,
+            cycle,
+        } = command;
+        assert_eq!(
+            twin::offer(&mut state, &mut room, kind, rank, bank, cycle).number,
+            0
+        );
         commands.push(command);
     }
     commands
@@ -157,7 +182,13 @@ fn offer_by_value(
 }
 
 /// Offers each command from `start` on; every answer has the number expected.
-fn offers(start: &ffi::Session, room: &mut [u8], trace: &[Command], offer: Offer, expect: u64) -> f64 {
+fn offers(
+    start: &ffi::Session,
+    room: &mut [u8],
+    trace: &[Command],
+    offer: Offer,
+    expect: u64,
+) -> f64 {
     let mut state = *start;
     timed(trace.len(), || {
         for c in trace {
@@ -190,7 +221,8 @@ fn compare_offers(title: &str, start: &ffi::Session, trace: &[Command], accepted
                 }
                 timed(trace.len(), || {
                     for c in trace {
-                        let (kind, rank, bank) = (c.kind as usize, c.rank as usize, c.bank as usize);
+                        let (kind, rank, bank) =
+                            (c.kind as usize, c.rank as usize, c.bank as usize);
                         black_box(design.offer(kind, rank, bank, c.cycle));
                     }
                 })
@@ -226,7 +258,11 @@ fn compare_earliest(state: &ffi::Session, trace: &[Command]) {
             contender("source 000", || {
                 timed(trace.len(), || {
                     for c in trace {
-                        black_box(design.earliest(c.kind as usize, c.rank as usize, c.bank as usize));
+                        black_box(design.earliest(
+                            c.kind as usize,
+                            c.rank as usize,
+                            c.bank as usize,
+                        ));
                     }
                 })
             }),
@@ -291,7 +327,9 @@ fn compare_restores(title: &str, rounds: usize, bytes: &[u8]) {
             }),
             contender("bytes added up", || {
                 timed(records, || {
-                    let words = bytes.chunks_exact(8).map(|w| u64::from_le_bytes(w.try_into().unwrap()));
+                    let words = bytes
+                        .chunks_exact(8)
+                        .map(|w| u64::from_le_bytes(w.try_into().unwrap()));
                     black_box(words.fold(0u64, u64::wrapping_add));
                 })
             }),
@@ -359,6 +397,9 @@ fn main() {
         let (bytes, _) = journal(MOST_RECORDS);
         let before = peak();
         compare_restores("restore, a record of 16,777,216", 3, &bytes);
-        println!("\nMemory beyond the journal while it was restored: {} KiB", peak() - before);
+        println!(
+            "\nMemory beyond the journal while it was restored: {} KiB",
+            peak() - before
+        );
     }
 }
