@@ -13,6 +13,13 @@ const RANKS: u64 = 2;
 const MODE: u64 = 1;
 const OFFERS: usize = 4096;
 
+const LIBRARY: &str = "library through C";
+const TWIN: &str = "twin, `&mut`";
+const BY_VALUE: &str = "twin by value";
+const SOURCE: &str = "source 000";
+const BYTES: &str = "bytes only";
+const COLUMNS: [&str; 4] = [TWIN, BY_VALUE, SOURCE, BYTES];
+
 #[derive(Clone, Copy)]
 struct Command {
     kind: u64,
@@ -111,7 +118,8 @@ fn median(mut values: Vec<f64>) -> f64 {
     values[values.len() / 2]
 }
 
-/// Runs the contenders in turns, and prints a line of the table for each: its median, and the median of its ratios to the second.
+/// Runs the contenders in turns, the library first, and prints a line of the table: each one's median, and the median of the library's
+/// ratios to it.
 fn compare(title: &str, rounds: usize, mut contenders: Vec<Contender>) {
     let mut times = vec![Vec::new(); contenders.len()];
     for round in 0..rounds + 2 {
@@ -122,12 +130,18 @@ fn compare(title: &str, rounds: usize, mut contenders: Vec<Contender>) {
             }
         }
     }
-    let base = times[1].clone();
-    for (contender, times) in contenders.iter().zip(times) {
-        let ratios = times.iter().zip(&base).map(|(a, b)| a / b).collect();
-        let (time, ratio) = (median(times), median(ratios));
-        println!("| {title} | {} | {time:.0} | {ratio:.2} |", contender.name);
+    let library = times[0].clone();
+    print!("| {title} | {:.0} |", median(library.clone()));
+    for column in COLUMNS {
+        let place = contenders.iter().position(|c| c.name == column);
+        let Some(times) = place.map(|i| times[i].clone()) else {
+            print!(" | |");
+            continue;
+        };
+        let ratios = library.iter().zip(&times).map(|(a, b)| a / b).collect();
+        print!(" {:.0} | {:.2} |", median(times), median(ratios));
     }
+    println!();
 }
 
 fn opened() -> ffi::Session {
@@ -200,22 +214,23 @@ fn offers(
 }
 
 /// The four contenders of an offer, each over the same buffer.
-fn compare_offers(title: &str, start: &ffi::Session, trace: &[Command], accepted: bool) {
+fn compare_offers(title: &str, start: &ffi::Session, before: &[Command], trace: &[Command]) {
+    let accepted = before.is_empty();
     let mut room = vec![0; (OFFERS + 2) * RECORD + start.records as usize * RECORD];
     let room = std::cell::RefCell::new(&mut room[..]);
     let expect = if accepted { 0 } else { 7 };
     let run = |offer: Offer| offers(start, &mut room.borrow_mut(), trace, offer, expect);
     compare(
         title,
-        41,
+        201,
         vec![
-            contender("library through C", || run(checker::offer)),
-            contender("twin, `&mut`", || run(twin::offer)),
-            contender("twin, by value", || run(offer_by_value)),
-            contender("source 000", || {
+            contender(LIBRARY, || run(checker::offer)),
+            contender(TWIN, || run(twin::offer)),
+            contender(BY_VALUE, || run(offer_by_value)),
+            contender(SOURCE, || {
                 let mut design = source000::Checker::new(RATIO, RANKS as usize, MODE, &SETTINGS_A);
                 if !accepted {
-                    for c in crate::trace().iter() {
+                    for c in before {
                         design.insert(c.kind as usize, c.rank as usize, c.bank as usize, c.cycle);
                     }
                 }
@@ -250,12 +265,12 @@ fn compare_earliest(state: &ffi::Session, trace: &[Command]) {
     }
     compare(
         "earliest",
-        41,
+        201,
         vec![
-            contender("library through C", || run(checker::earliest)),
-            contender("twin, `&mut`", || run(twin::earliest)),
-            contender("twin, by value", || run(earliest_by_value)),
-            contender("source 000", || {
+            contender(LIBRARY, || run(checker::earliest)),
+            contender(TWIN, || run(twin::earliest)),
+            contender(BY_VALUE, || run(earliest_by_value)),
+            contender(SOURCE, || {
                 timed(trace.len(), || {
                     for c in trace {
                         black_box(design.earliest(
@@ -296,11 +311,11 @@ fn compare_take_backs(start: &ffi::Session) {
     };
     compare(
         "take-back",
-        41,
+        201,
         vec![
-            contender("library through C", || run(checker::take_back)),
-            contender("twin, `&mut`", || run(twin::take_back)),
-            contender("twin, by value", || run(take_back_by_value)),
+            contender(LIBRARY, || run(checker::take_back)),
+            contender(TWIN, || run(twin::take_back)),
+            contender(BY_VALUE, || run(take_back_by_value)),
         ],
     );
 }
@@ -311,21 +326,21 @@ fn compare_restores(title: &str, rounds: usize, bytes: &[u8]) {
         title,
         rounds,
         vec![
-            contender("library through C", || {
+            contender(LIBRARY, || {
                 timed(records, || {
                     let (state, number, record) = checker::restore(black_box(bytes));
                     assert_eq!((number, record, state.records as usize), (0, 0, records));
                     black_box(&state);
                 })
             }),
-            contender("twin, `&mut`", || {
+            contender(TWIN, || {
                 timed(records, || {
                     let (state, number, record) = twin::restore(black_box(bytes));
                     assert_eq!((number, record, state.records as usize), (0, 0, records));
                     black_box(&state);
                 })
             }),
-            contender("bytes added up", || {
+            contender(BYTES, || {
                 timed(records, || {
                     let words = bytes
                         .chunks_exact(8)
@@ -352,10 +367,10 @@ fn compare_listings(bytes: &[u8]) {
     };
     compare(
         "listing, a record",
-        11,
+        21,
         vec![
-            contender("library through C", || run(checker::list_part)),
-            contender("twin, `&mut`", || run(twin::list_part)),
+            contender(LIBRARY, || run(checker::list_part)),
+            contender(TWIN, || run(twin::list_part)),
         ],
     );
 }
@@ -370,10 +385,11 @@ fn peak() -> u64 {
 
 fn main() {
     let full = std::env::args().nth(1).is_some_and(|word| word == "full");
-    println!("| Call | Contender | ns | Ratio to the twin |");
-    println!("|---|---|---|---|");
+    print!("| Call | {LIBRARY}, ns |");
+    COLUMNS.iter().for_each(|c| print!(" {c}, ns | ratio |"));
+    println!("\n|---|---|{}", "---|---|".repeat(COLUMNS.len()));
     let trace = trace();
-    compare_offers("accepted offer", &opened(), &trace, true);
+    compare_offers("accepted offer", &opened(), &[], &trace);
     let mut room = vec![0; (OFFERS + 1) * RECORD];
     let mut state = opened();
     for c in &trace {
@@ -387,11 +403,11 @@ fn main() {
             early.push(Command { cycle, ..*c });
         }
     }
-    compare_offers("refused offer (7)", &state, &early, false);
+    compare_offers("refused offer (7)", &state, &trace, &early);
     compare_earliest(&state, &trace);
     compare_take_backs(&state);
     let (bytes, _) = journal(100_000);
-    compare_restores("restore, a record of 100,000", 21, &bytes);
+    compare_restores("restore, a record of 100,000", 31, &bytes);
     compare_listings(&bytes);
     if full {
         let (bytes, _) = journal(MOST_RECORDS);
