@@ -16,8 +16,8 @@ mul-earlier c = search needs
 element-copy-out-earlier : tie.Need-element-copy-out-earlier
 element-copy-out-earlier c = search needs
 
-fourth-requires : tie.Need-fourth-requires
-fourth-requires c κs = search needs
+entry-for-requires : tie.Need-entry-for-requires
+entry-for-requires c κs = search needs
 
 mul-entry : tie.Need-mul-entry
 mul-entry c = search needs
@@ -48,7 +48,7 @@ one-more-requires-2 c κs = search needs
 
 returns : tie.Need-returns
 unfolding pushedState
-returns c = rw (c .one-more2 .ensures, c .before .deeper .ensures, c .before .before .one-more .ensures, c .before .before .before .shifted .ensures, c .before .before .before .before .before .fourth .ensures, c .before .before .before .before .before .before .before .before .store-stamp .ensures, c .before .before .before .before .before .before .before .before .before .slot-of .ensures .0)
+returns c = rw (c .one-more2 .ensures, c .before .deeper .ensures, c .before .before .one-more .ensures, c .before .before .before .shifted .ensures, c .before .before .before .before .entry-for .ensures, c .before .before .before .before .before .before .before .before .store-stamp .ensures, c .before .before .before .before .before .before .before .before .before .slot-of .ensures .0)
 
 pub push-spec : {M : Type 1} → statement M
 push-spec =
@@ -58,7 +58,7 @@ push-spec =
     store-stamp-requires
     mul-earlier
     element-copy-out-earlier
-    fourth-requires
+    entry-for-requires
     mul-entry
     element-set-from-entry
     mul-stamp

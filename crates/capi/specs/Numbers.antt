@@ -1,0 +1,51 @@
+-- The numbers that cross to C, as the replies that they stand for.
+use mathlib.Core.Path.{_≡_}
+use mathlib.Core.Bool.{Bool, cond}
+use mathlib.Core.List.{List}
+use Prim.Native.Nat.{ℕ}
+use Rattle.history.specs.Answers as answers
+use Rattle.history.specs.Answers.{Reply, plain}
+use Rattle.journal.specs.Restore.{Part}
+use Rattle.session.specs.declared.state.Session.{Session}
+use Rattle.listing.specs.declared.records.Listed as listing
+use Rattle.listing.specs.Run.{ListsPart}
+use Rattle.capi.specs.declared.answers.Opened.{Opened}
+use Rattle.capi.specs.declared.answers.Offered.{Offered}
+use Rattle.capi.specs.declared.answers.Numbers.{Numbers}
+use Rattle.capi.specs.declared.answers.TakenBack.{TakenBack}
+use Rattle.capi.specs.declared.answers.Status.{Status}
+use Rattle.capi.specs.declared.answers.Stretch.{Stretch}
+use Rattle.capi.specs.declared.answers.Listed.{Listed}
+
+abbrev pub openedReply : Opened → Reply
+openedReply r = plain (r .number)
+
+abbrev pub offeredReply : Offered → Reply
+offeredReply r = record { number = r .number; cycle = r .cycle; gap = r .gap }
+
+abbrev pub numbersReply : Numbers → Reply
+numbersReply r = record { number = r .number; cycle = r .cycle; gap = r .gap }
+
+abbrev pub takenBackReply : TakenBack → Reply
+takenBackReply r = plain (r .number)
+
+abbrev pub statusGiven : Status → answers.Status
+statusGiven r =
+    record {
+      number = r .number;
+      client = r .client;
+      opening = r .opening;
+      survivors = r .survivors;
+      depth = r .depth;
+      last = r .last;
+      records = r .records;
+    }
+
+abbrev pub stretchGiven : Stretch → Part
+stretchGiven r = record { start = r .start; size = r .size }
+
+-- what a listing of a part leaves, by the listing's own statement; `ended` is 1 where it has ended and 0 where not
+pub record Lists (part : List ℕ) (last : Bool) (s : Session) (before after : List ℕ) (r : Listed) : Type 0 where
+  pub stopped : Bool
+  pub ended : r .ended ≡ cond stopped 1 0
+  pub lists : ListsPart part last s before after (record { session = r .session; written = r .written; stopped = stopped })

@@ -1,0 +1,421 @@
+//! The speed of the library's calls beside a plain Rust twin and the checker design of source 000: `cargo run --release --bin speed`
+//! prints the table of docs/SPEED.md. Every figure is a median of interleaved rounds over the same buffers.
+//! `speed full` adds a journal of 16,777,216 records (1 GiB).
+
+use rossinhiu_host::generate::SETTINGS_A;
+use rossinhiu_host::model::{MOST_RECORDS, RECORD};
+use rossinhiu_host::{checker, ffi, source000, twin};
+use std::hint::black_box;
+use std::time::Instant;
+
+const RATIO: u64 = 4;
+const RANKS: u64 = 2;
+const MODE: u64 = 1;
+const OFFERS: usize = 4096;
+
+const LIBRARY: &str = "library through C";
+const TWIN: &str = "twin, `&mut`";
+const BY_VALUE: &str = "twin by value";
+const SOURCE: &str = "source 000";
+const BYTES: &str = "bytes only";
+const COLUMNS: [&str; 4] = [TWIN, BY_VALUE, SOURCE, BYTES];
+
+#[derive(Clone, Copy)]
+struct Command {
+    kind: u64,
+    rank: u64,
+    bank: u64,
+    cycle: u64,
+}
+
+/// A small generator of numbers; the same on every machine.
+struct Dice(u64);
+
+impl Dice {
+    fn below(&mut self, n: u64) -> u64 {
+        self.0 ^= self.0 << 13;
+        self.0 ^= self.0 >> 7;
+        self.0 ^= self.0 << 17;
+        (self.0 >> 11) % n
+    }
+
+    fn command(&mut self) -> Command {
+        let kind = [
+            1, 1, 1, 1, 1, 2, 2, 2, 2, 2, 2, 3, 3, 3, 3, 4, 4, 4, 7, 7, 5, 6,
+        ];
+        let kind = kind[self.below(22) as usize];
+        let bank = if kind == 5 || kind == 6 {
+            0
+        } else {
+            self.below(16)
+        };
+        Command {
+            kind,
+            rank: self.below(RANKS),
+            bank,
+            cycle: 0,
+        }
+    }
+}
+
+/// A journal of so many records, and the commands in it: an opening at every 10,000th record, a take-back at every 97th.
+fn journal(records: usize) -> (Vec<u8>, Vec<Command>) {
+    let mut dice = Dice(20_260_001);
+    let mut bytes = vec![0; records * RECORD];
+    let mut state = twin::fresh();
+    let mut commands = Vec::new();
+    for n in 0..records {
+        if n % 10_000 == 0 {
+            let settings = (RATIO, RANKS, MODE);
+            assert_eq!(
+                twin::open(&mut state, &mut bytes, settings, 7, &SETTINGS_A),
+                0
+            );
+        } else if n % 97 == 50 {
+            assert_eq!(twin::take_back(&mut state, &mut bytes), 0);
+        } else {
+            let mut command = dice.command();
+            command.cycle = twin::earliest(&state, command.kind, command.rank, command.bank).cycle;
+            let Command {
+                kind,
+                rank,
+                bank,
+                cycle,
+            } = command;
+            assert_eq!(
+                twin::offer(&mut state, &mut bytes, kind, rank, bank, cycle).number,
+                0
+            );
+            if commands.len() < OFFERS {
+                commands.push(command);
+            }
+        }
+    }
+    (bytes, commands)
+}
+
+/// Nanoseconds of one contender's round, for each operation in it.
+struct Contender<'a> {
+    name: &'static str,
+    round: Box<dyn FnMut() -> f64 + 'a>,
+}
+
+fn contender<'a>(name: &'static str, round: impl FnMut() -> f64 + 'a) -> Contender<'a> {
+    Contender {
+        name,
+        round: Box::new(round),
+    }
+}
+
+fn timed(operations: usize, work: impl FnOnce()) -> f64 {
+    let start = Instant::now();
+    work();
+    start.elapsed().as_nanos() as f64 / operations as f64
+}
+
+fn median(mut values: Vec<f64>) -> f64 {
+    values.sort_by(f64::total_cmp);
+    values[values.len() / 2]
+}
+
+/// Runs the contenders in turns, the library first, and prints a line of the table: each one's median, and the median of the library's
+/// ratios to it.
+fn compare(title: &str, rounds: usize, mut contenders: Vec<Contender>) {
+    let mut times = vec![Vec::new(); contenders.len()];
+    for round in 0..rounds + 2 {
+        for (contender, times) in contenders.iter_mut().zip(&mut times) {
+            let time = (contender.round)();
+            if round >= 2 {
+                times.push(time);
+            }
+        }
+    }
+    let library = times[0].clone();
+    print!("| {title} | {:.0} |", median(library.clone()));
+    for column in COLUMNS {
+        let place = contenders.iter().position(|c| c.name == column);
+        let Some(times) = place.map(|i| times[i].clone()) else {
+            print!(" | |");
+            continue;
+        };
+        let ratios = library.iter().zip(&times).map(|(a, b)| a / b).collect();
+        print!(" {:.0} | {:.2} |", median(times), median(ratios));
+    }
+    println!();
+}
+
+fn opened() -> ffi::Session {
+    let mut state = twin::fresh();
+    let mut room = [0; RECORD];
+    twin::open(&mut state, &mut room, (RATIO, RANKS, MODE), 7, &SETTINGS_A);
+    state
+}
+
+/// A trace in which every command is accepted at its cycle.
+fn trace() -> Vec<Command> {
+    let mut dice = Dice(99);
+    let mut state = opened();
+    let mut room = vec![0; (OFFERS + 1) * RECORD];
+    let mut commands = Vec::new();
+    for _ in 0..OFFERS {
+        let mut command = dice.command();
+        command.cycle = twin::earliest(&state, command.kind, command.rank, command.bank).cycle;
+        let Command {
+            kind,
+            rank,
+            bank,
+            cycle,
+        } = command;
+        assert_eq!(
+            twin::offer(&mut state, &mut room, kind, rank, bank, cycle).number,
+            0
+        );
+        commands.push(command);
+    }
+    commands
+}
+
+type Offer = fn(&mut ffi::Session, &mut [u8], u64, u64, u64, u64) -> ffi::Numbers;
+
+fn offer_by_value(
+    state: &mut ffi::Session,
+    journal: &mut [u8],
+    kind: u64,
+    rank: u64,
+    bank: u64,
+    cycle: u64,
+) -> ffi::Numbers {
+    let (at, size) = (journal.as_mut_ptr(), journal.len());
+    let done = unsafe { twin::by_value::offer(*state, at, size, kind, rank, bank, cycle) };
+    *state = done.session;
+    ffi::Numbers {
+        number: done.number,
+        cycle: done.cycle,
+        gap: done.gap,
+    }
+}
+
+/// Offers each command from `start` on; every answer has the number expected.
+fn offers(
+    start: &ffi::Session,
+    room: &mut [u8],
+    trace: &[Command],
+    offer: Offer,
+    expect: u64,
+) -> f64 {
+    let mut state = *start;
+    timed(trace.len(), || {
+        for c in trace {
+            let done = offer(&mut state, room, c.kind, c.rank, c.bank, c.cycle);
+            assert_eq!(done.number, expect);
+        }
+        black_box(&state);
+    })
+}
+
+/// The four contenders of an offer, each over the same buffer.
+fn compare_offers(title: &str, start: &ffi::Session, before: &[Command], trace: &[Command]) {
+    let accepted = before.is_empty();
+    let mut room = vec![0; (OFFERS + 2) * RECORD + start.records as usize * RECORD];
+    let room = std::cell::RefCell::new(&mut room[..]);
+    let expect = if accepted { 0 } else { 7 };
+    let run = |offer: Offer| offers(start, &mut room.borrow_mut(), trace, offer, expect);
+    compare(
+        title,
+        201,
+        vec![
+            contender(LIBRARY, || run(checker::offer)),
+            contender(TWIN, || run(twin::offer)),
+            contender(BY_VALUE, || run(offer_by_value)),
+            contender(SOURCE, || {
+                let mut design = source000::Checker::new(RATIO, RANKS as usize, MODE, &SETTINGS_A);
+                if !accepted {
+                    for c in before {
+                        design.insert(c.kind as usize, c.rank as usize, c.bank as usize, c.cycle);
+                    }
+                }
+                timed(trace.len(), || {
+                    for c in trace {
+                        let (kind, rank, bank) =
+                            (c.kind as usize, c.rank as usize, c.bank as usize);
+                        black_box(design.offer(kind, rank, bank, c.cycle));
+                    }
+                })
+            }),
+        ],
+    );
+}
+
+fn earliest_by_value(state: &ffi::Session, kind: u64, rank: u64, bank: u64) -> ffi::Numbers {
+    twin::by_value::earliest(*state, kind, rank, bank)
+}
+
+fn compare_earliest(state: &ffi::Session, trace: &[Command]) {
+    type Ask = fn(&ffi::Session, u64, u64, u64) -> ffi::Numbers;
+    let run = |ask: Ask| {
+        timed(trace.len(), || {
+            for c in trace {
+                black_box(ask(black_box(state), c.kind, c.rank, c.bank));
+            }
+        })
+    };
+    let mut design = source000::Checker::new(RATIO, RANKS as usize, MODE, &SETTINGS_A);
+    for c in trace {
+        design.insert(c.kind as usize, c.rank as usize, c.bank as usize, c.cycle);
+    }
+    compare(
+        "earliest",
+        201,
+        vec![
+            contender(LIBRARY, || run(checker::earliest)),
+            contender(TWIN, || run(twin::earliest)),
+            contender(BY_VALUE, || run(earliest_by_value)),
+            contender(SOURCE, || {
+                timed(trace.len(), || {
+                    for c in trace {
+                        black_box(design.earliest(
+                            c.kind as usize,
+                            c.rank as usize,
+                            c.bank as usize,
+                        ));
+                    }
+                })
+            }),
+        ],
+    );
+}
+
+fn take_back_by_value(state: &mut ffi::Session, journal: &mut [u8]) -> u64 {
+    let (at, size) = (journal.as_mut_ptr(), journal.len());
+    let done = unsafe { twin::by_value::take_back(*state, at, size) };
+    *state = done.session;
+    done.number
+}
+
+fn compare_take_backs(start: &ffi::Session) {
+    type TakeBack = fn(&mut ffi::Session, &mut [u8]) -> u64;
+    let room = std::cell::RefCell::new(vec![0; (start.records as usize + 64) * RECORD]);
+    let run = |take_back: TakeBack| {
+        let room = &mut room.borrow_mut()[..];
+        let mut total = 0.0;
+        for _ in 0..64 {
+            let mut state = *start;
+            total += timed(64, || {
+                for _ in 0..64 {
+                    assert_eq!(take_back(&mut state, room), 0);
+                }
+            });
+            black_box(&state);
+        }
+        total / 64.0
+    };
+    compare(
+        "take-back",
+        201,
+        vec![
+            contender(LIBRARY, || run(checker::take_back)),
+            contender(TWIN, || run(twin::take_back)),
+            contender(BY_VALUE, || run(take_back_by_value)),
+        ],
+    );
+}
+
+fn compare_restores(title: &str, rounds: usize, bytes: &[u8]) {
+    let records = bytes.len() / RECORD;
+    compare(
+        title,
+        rounds,
+        vec![
+            contender(LIBRARY, || {
+                timed(records, || {
+                    let (state, number, record) = checker::restore(black_box(bytes));
+                    assert_eq!((number, record, state.records as usize), (0, 0, records));
+                    black_box(&state);
+                })
+            }),
+            contender(TWIN, || {
+                timed(records, || {
+                    let (state, number, record) = twin::restore(black_box(bytes));
+                    assert_eq!((number, record, state.records as usize), (0, 0, records));
+                    black_box(&state);
+                })
+            }),
+            contender(BYTES, || {
+                timed(records, || {
+                    let words = bytes
+                        .chunks_exact(8)
+                        .map(|w| u64::from_le_bytes(w.try_into().unwrap()));
+                    black_box(words.fold(0u64, u64::wrapping_add));
+                })
+            }),
+        ],
+    );
+}
+
+fn compare_listings(bytes: &[u8]) {
+    type List = fn(&mut ffi::Session, &[u8], bool, &mut [u8]) -> (usize, bool);
+    let part = 1024 * RECORD;
+    let out = std::cell::RefCell::new(vec![0; part + 64]);
+    let run = |list: List| {
+        let out = &mut out.borrow_mut()[..];
+        let mut state = twin::fresh();
+        timed(bytes.len() / RECORD, || {
+            for piece in bytes.chunks(part) {
+                assert!(list(&mut state, piece, false, out).0 > 0);
+            }
+        })
+    };
+    compare(
+        "listing, a record",
+        21,
+        vec![
+            contender(LIBRARY, || run(checker::list_part)),
+            contender(TWIN, || run(twin::list_part)),
+        ],
+    );
+}
+
+/// The most memory that this process had at once, in KiB.
+fn peak() -> u64 {
+    let status = std::fs::read_to_string("/proc/self/status").unwrap_or_default();
+    let line = status.lines().find(|line| line.starts_with("VmHWM:"));
+    let words = line.and_then(|line| line.split_whitespace().nth(1));
+    words.and_then(|kib| kib.parse().ok()).unwrap_or(0)
+}
+
+fn main() {
+    let full = std::env::args().nth(1).is_some_and(|word| word == "full");
+    print!("| Call | {LIBRARY}, ns |");
+    COLUMNS.iter().for_each(|c| print!(" {c}, ns | ratio |"));
+    println!("\n|---|---|{}", "---|---|".repeat(COLUMNS.len()));
+    let trace = trace();
+    compare_offers("accepted offer", &opened(), &[], &trace);
+    let mut room = vec![0; (OFFERS + 1) * RECORD];
+    let mut state = opened();
+    for c in &trace {
+        twin::offer(&mut state, &mut room, c.kind, c.rank, c.bank, c.cycle);
+    }
+    let mut early = Vec::new();
+    for c in &trace {
+        let found = twin::earliest(&state, c.kind, c.rank, c.bank);
+        if found.gap != 0 {
+            let cycle = found.cycle - 1;
+            early.push(Command { cycle, ..*c });
+        }
+    }
+    compare_offers("refused offer (7)", &state, &trace, &early);
+    compare_earliest(&state, &trace);
+    compare_take_backs(&state);
+    let (bytes, _) = journal(100_000);
+    compare_restores("restore, a record of 100,000", 31, &bytes);
+    compare_listings(&bytes);
+    if full {
+        let (bytes, _) = journal(MOST_RECORDS);
+        let before = peak();
+        compare_restores("restore, a record of 16,777,216", 3, &bytes);
+        println!(
+            "\nMemory beyond the journal while it was restored: {} KiB",
+            peak() - before
+        );
+    }
+}

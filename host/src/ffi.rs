@@ -1,0 +1,147 @@
+//! The library's C functions as they are: include/rossinhiu.h in Rust. Every field of every struct is a number, so any bytes are a
+//! value of it.
+
+/// What a take-back must put back.
+#[repr(C)]
+#[derive(Clone, Copy, Debug, Default, PartialEq, Eq)]
+pub struct Entry {
+    pub slot: u64,
+    pub earlier: u64,
+    pub pushed_out: u64,
+    pub latest: u64,
+}
+
+#[repr(C)]
+#[derive(Clone, Copy, Debug, Default, PartialEq, Eq)]
+pub struct Opening {
+    pub ratio: u8,
+    pub ranks: u8,
+    pub mode: u8,
+    pub client: u32,
+}
+
+/// The state.
+#[repr(C)]
+#[derive(Clone, Copy, Debug, PartialEq, Eq)]
+pub struct Session {
+    pub last: [u64; 224],
+    pub activates: [u64; 8],
+    pub entries: [Entry; 64],
+    pub position: u64,
+    pub latest: u64,
+    pub survivors: u64,
+    pub depth: u64,
+    pub records: u64,
+    pub rounded: [u64; 20],
+    pub opening: Opening,
+    pub number: u32,
+    pub is_open: u8,
+}
+
+#[repr(C)]
+#[derive(Clone, Copy, Debug, PartialEq, Eq)]
+pub struct Gaps {
+    pub gap: [u16; 20],
+}
+
+#[repr(C)]
+#[derive(Clone, Copy, Debug)]
+pub struct Opened {
+    pub session: Session,
+    pub number: u64,
+}
+
+#[repr(C)]
+#[derive(Clone, Copy, Debug)]
+pub struct Offered {
+    pub session: Session,
+    pub number: u64,
+    pub cycle: u64,
+    pub gap: u64,
+}
+
+#[repr(C)]
+#[derive(Clone, Copy, Debug, PartialEq, Eq)]
+pub struct Numbers {
+    pub number: u64,
+    pub cycle: u64,
+    pub gap: u64,
+}
+
+#[repr(C)]
+#[derive(Clone, Copy, Debug)]
+pub struct TakenBack {
+    pub session: Session,
+    pub number: u64,
+}
+
+#[repr(C)]
+#[derive(Clone, Copy, Debug, PartialEq, Eq)]
+pub struct Status {
+    pub number: u64,
+    pub client: u32,
+    pub opening: u32,
+    pub survivors: u64,
+    pub depth: u64,
+    pub last: u64,
+    pub records: u64,
+}
+
+#[repr(C)]
+#[derive(Clone, Copy, Debug)]
+pub struct Restored {
+    pub session: Session,
+    pub number: u64,
+    pub record: u64,
+}
+
+#[repr(C)]
+#[derive(Clone, Copy, Debug, PartialEq, Eq)]
+pub struct Part {
+    pub start: usize,
+    pub size: usize,
+}
+
+#[repr(C)]
+#[derive(Clone, Copy, Debug)]
+pub struct Listed {
+    pub session: Session,
+    pub written: usize,
+    pub ended: u64,
+}
+
+extern "C" {
+    pub fn rossinhiu_fresh() -> Session;
+    pub fn rossinhiu_open(
+        session: Session,
+        journal: *mut u8,
+        size: usize,
+        ratio: u64,
+        ranks: u64,
+        mode: u64,
+        client: u32,
+        gaps: Gaps,
+    ) -> Opened;
+    pub fn rossinhiu_offer(
+        session: Session,
+        journal: *mut u8,
+        size: usize,
+        kind: u64,
+        rank: u64,
+        bank: u64,
+        cycle: u64,
+    ) -> Offered;
+    pub fn rossinhiu_earliest(session: Session, kind: u64, rank: u64, bank: u64) -> Numbers;
+    pub fn rossinhiu_take_back(session: Session, journal: *mut u8, size: usize) -> TakenBack;
+    pub fn rossinhiu_status(session: Session) -> Status;
+    pub fn rossinhiu_restore(journal: *const u8, size: usize) -> Restored;
+    pub fn rossinhiu_stretch(session: Session, size: usize) -> Part;
+    pub fn rossinhiu_list_part(
+        session: Session,
+        part: *const u8,
+        part_size: usize,
+        last: u64,
+        out: *mut u8,
+        out_size: usize,
+    ) -> Listed;
+}

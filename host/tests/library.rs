@@ -1,0 +1,474 @@
+//! The library's C functions held against the model: at least 5,000,000 calls, every answer and every byte of the journal.
+//! ROSSINHIU_CALLS gives another number of calls, ROSSINHIU_SEED the first seed.
+
+use rossinhiu_host::ffi::{Numbers, Session};
+use rossinhiu_host::generate::{Rng, SETTINGS_A};
+use rossinhiu_host::model::{Command, State, LAST_CYCLE, MOST_RECORDS, RECORD};
+use rossinhiu_host::{checker, listing, twin};
+use std::collections::BTreeMap;
+use std::sync::atomic::{AtomicU64, Ordering};
+use std::thread;
+
+/// How often each call gave each number; for 7 and an earliest cycle, the gaps too.
+type Seen = BTreeMap<(&'static str, u64, u64), u64>;
+
+/// The library and the model side by side, each over a journal of its own.
+struct Pair {
+    seed: u64,
+    rng: Rng,
+    session: Session,
+    lent: Vec<u8>,
+    model: State,
+    expected: Vec<u8>,
+    calls: u64,
+    seen: Seen,
+}
+
+impl Pair {
+    fn new(seed: u64) -> Pair {
+        let mut rng = Rng::new(seed);
+        let room = rng.pick(&[1, 40, 120, 160, 200, 240, 280, 320]) * RECORD as u64 + rng.below(64);
+        let lent: Vec<u8> = (0..room).map(|_| rng.below(256) as u8).collect();
+        Pair {
+            seed,
+            rng,
+            session: checker::fresh(),
+            expected: lent.clone(),
+            lent,
+            model: State::fresh(),
+            calls: 0,
+            seen: Seen::new(),
+        }
+    }
+
+    fn saw(&mut self, call: &'static str, number: u64, gap: u64) {
+        self.calls += 1;
+        *self.seen.entry((call, number, gap)).or_default() += 1;
+    }
+
+    /// After a call: the same bytes.
+    fn hold<T: PartialEq + std::fmt::Debug>(&self, call: &str, came: T, due: T) {
+        let at = (self.seed, self.calls);
+        assert_eq!(came, due, "{call}: seed and call {at:?}");
+        assert!(
+            self.lent == self.expected,
+            "{call}: bytes, seed and call {at:?}"
+        );
+    }
+
+    fn gaps(&mut self) -> [u16; 20] {
+        let mut gaps = match self.rng.below(5) {
+            0 => [0; 20],
+            1 => SETTINGS_A,
+            2 => std::array::from_fn(|_| self.rng.below(40) as u16),
+            // Small gaps, and a wide window for four activates.
+            3 => std::array::from_fn(|i| self.rng.below(6) as u16 + 60 * (i as u16 / 19)),
+            _ => std::array::from_fn(|_| self.rng.draw() as u16),
+        };
+        if self.rng.chance(30) {
+            gaps[self.rng.below(20) as usize] = self.rng.pick(&[0, 1, 2, 3, 4, 5, 100, 65_535]);
+        }
+        gaps
+    }
+
+    fn open(&mut self) {
+        let bad = self.rng.chance(15);
+        let wild = [0, 1, 2, 3, 4, 5, 257, 1 << 32, (1 << 32) + 1, u64::MAX];
+        let ratio = if bad {
+            self.rng.pick(&wild)
+        } else {
+            self.rng.pick(&[1, 2, 4])
+        };
+        let ranks = if bad {
+            self.rng.pick(&wild)
+        } else {
+            self.rng.pick(&[1, 2])
+        };
+        let mode = if bad {
+            self.rng.pick(&wild)
+        } else {
+            self.rng.pick(&[0, 1])
+        };
+        let (given, client, gaps) = ((ratio, ranks, mode), self.rng.draw() as u32, self.gaps());
+        let came = checker::open(&mut self.session, &mut self.lent, given, client, &gaps);
+        let due = self.model.open(&mut self.expected, given, client, gaps);
+        self.saw("open", came, 0);
+        self.hold("open", came, due);
+    }
+
+    fn place(&mut self) -> (u64, u64, u64) {
+        let wild = self.rng.chance(2);
+        let kind = self
+            .rng
+            .pick(&[1, 1, 1, 1, 2, 2, 2, 3, 3, 3, 4, 4, 5, 6, 7, 7]);
+        let kind = if wild {
+            self.rng.pick(&[0, 8, 257, u64::MAX, kind])
+        } else {
+            kind
+        };
+        let ranks = u64::from(self.session.opening.ranks.max(1));
+        let rank = self.rng.below(ranks);
+        let rank = if wild {
+            self.rng.pick(&[ranks, 2, 256, u64::MAX, rank])
+        } else {
+            rank
+        };
+        let banks = self.rng.pick(&[2, 4, 16]);
+        let bank = if kind == 5 || kind == 6 {
+            0
+        } else {
+            self.rng.below(banks)
+        };
+        let bank = if wild {
+            self.rng.pick(&[15, 16, 1, 256, u64::MAX, bank])
+        } else {
+            bank
+        };
+        (kind, rank, bank)
+    }
+
+    fn ask(&mut self, (kind, rank, bank): (u64, u64, u64)) -> Numbers {
+        let came = checker::earliest(&self.session, kind, rank, bank);
+        let due = self.model.ask(kind, rank, bank);
+        self.saw("earliest", came.number, came.gap);
+        self.hold("earliest", told(came), (due.number, due.cycle, due.gap));
+        came
+    }
+
+    fn offer(&mut self) {
+        let (kind, rank, bank) = self.place();
+        let near = self.ask((kind, rank, bank)).cycle;
+        let last = checker::status(&self.session).last;
+        let cycle = match self.rng.below(40) {
+            0 => last,
+            1 => last.wrapping_sub(self.rng.below(3)),
+            2 => last + 1,
+            3 => self
+                .rng
+                .pick(&[LAST_CYCLE, LAST_CYCLE + 1, LAST_CYCLE - 1, u64::MAX]),
+            4..=11 => near.wrapping_sub(1),
+            12 => near.wrapping_sub(self.rng.below(70)),
+            13..=18 => near + self.rng.below(8),
+            _ => near,
+        };
+        let came = checker::offer(&mut self.session, &mut self.lent, kind, rank, bank, cycle);
+        let command = Command {
+            kind,
+            rank,
+            bank,
+            cycle,
+        };
+        let due = self.model.offer(&mut self.expected, command);
+        self.saw("offer", came.number, came.gap);
+        self.hold("offer", told(came), (due.number, due.cycle, due.gap));
+    }
+
+    fn take_back(&mut self) {
+        let came = checker::take_back(&mut self.session, &mut self.lent);
+        let due = self.model.back(&mut self.expected);
+        self.saw("take back", came, 0);
+        self.hold("take back", came, due);
+    }
+
+    fn status(&mut self) {
+        let came = checker::status(&self.session);
+        let due = self.model.status();
+        let numbers = [came.survivors, came.depth, came.last, came.records];
+        let other = [
+            due.survivors as u64,
+            due.depth,
+            due.last,
+            due.records as u64,
+        ];
+        self.saw("status", came.number, 0);
+        self.hold(
+            "status",
+            (came.number, came.client),
+            (due.number, due.client),
+        );
+        self.hold(
+            "status",
+            (came.opening as usize, numbers),
+            (due.opening, other),
+        );
+    }
+
+    fn stretch(&mut self) {
+        let size = match self.rng.below(3) {
+            0 => self.lent.len(),
+            1 => self.rng.below(self.lent.len() as u64 + 1) as usize,
+            _ => (RECORD * self.model.records.len()).min(self.lent.len()),
+        };
+        let part = checker::stretch(&self.session, size);
+        let came = &self.lent[part.start..part.start + part.size];
+        let due = self.model.stretch(&self.expected[..size]);
+        let held = (due.as_ptr() as usize).wrapping_sub(self.expected.as_ptr() as usize);
+        let start = if due.is_empty() { 0 } else { held };
+        self.hold("stretch", (part.start, came), (start, due));
+        self.saw("stretch", u64::from(part.size > 0), 0);
+    }
+
+    /// A mains failure: the journal cut somewhere, or a byte of it changed; then the state is what is restored.
+    fn restore(&mut self) {
+        let end = RECORD * self.model.records.len();
+        let mut bytes = self.lent[..end.min(self.lent.len())].to_vec();
+        match self.rng.below(4) {
+            0 => bytes.truncate(self.rng.below(bytes.len() as u64 + 1) as usize),
+            1 if !bytes.is_empty() => {
+                let at = self.rng.below(bytes.len() as u64) as usize;
+                bytes[at] ^= 1 << self.rng.below(8);
+            }
+            2 => bytes.extend((0..self.rng.below(64)).map(|n| n as u8)),
+            _ => {}
+        }
+        let (session, number, record) = checker::restore(&bytes);
+        let (due, at, model) = State::restore(&bytes);
+        self.saw("restore", number, 0);
+        self.hold("restore", (number, record), (due, at as u64));
+        self.list(&bytes);
+        let whole = RECORD * model.records.len();
+        if number == 0 || self.rng.chance(5) {
+            // A changed byte that is still good goes into the journal too.
+            self.lent[..whole].copy_from_slice(&bytes[..whole]);
+            self.expected[..whole].copy_from_slice(&bytes[..whole]);
+            (self.session, self.model) = (session, model);
+        }
+    }
+
+    /// The listing of the same bytes, whole or record by record.
+    fn list(&mut self, bytes: &[u8]) {
+        let due = listing::list(bytes);
+        let part = self.rng.pick(&[RECORD, 5 * RECORD, 1000 * RECORD]);
+        let (mut session, mut came) = (checker::fresh(), Vec::new());
+        let mut out = vec![7; part + 64];
+        let mut at = 0;
+        loop {
+            let end = (at + part).min(bytes.len());
+            let last = end == bytes.len();
+            let (written, ended) =
+                checker::list_part(&mut session, &bytes[at..end], last, &mut out);
+            came.extend_from_slice(&out[..written]);
+            self.saw("list", u64::from(ended), 0);
+            if ended {
+                break;
+            }
+            assert!(!last, "a listing ends with its last part");
+            at = end;
+        }
+        self.hold("list", String::from_utf8(came), String::from_utf8(due));
+    }
+
+    fn play(&mut self, calls: u64) {
+        if self.rng.chance(96) {
+            self.open();
+        }
+        while self.calls < calls {
+            match self.rng.below(1000) {
+                0..=5 => self.open(),
+                6..=599 => self.offer(),
+                600..=749 => {
+                    let place = self.place();
+                    self.ask(place);
+                }
+                750..=899 => self.take_back(),
+                900..=959 => self.status(),
+                960..=995 => self.stretch(),
+                _ => self.restore(),
+            }
+        }
+        self.status();
+        self.restore();
+    }
+}
+
+fn told(came: Numbers) -> (u64, u128, u64) {
+    (came.number, u128::from(came.cycle), came.gap)
+}
+
+fn number_from(name: &str, default: u64) -> u64 {
+    let given = std::env::var(name).ok();
+    given.map_or(default, |text| text.parse().expect("a number"))
+}
+
+#[test]
+fn five_million_calls_as_the_model() {
+    let wanted = number_from("ROSSINHIU_CALLS", 5_000_000);
+    let first = number_from("ROSSINHIU_SEED", 20_260_000);
+    let (next, calls) = (AtomicU64::new(first), AtomicU64::new(0));
+    let work = || {
+        let mut seen = Seen::new();
+        while calls.load(Ordering::Relaxed) < wanted {
+            let mut pair = Pair::new(next.fetch_add(1, Ordering::Relaxed));
+            pair.play(700);
+            calls.fetch_add(pair.calls, Ordering::Relaxed);
+            for (what, count) in pair.seen {
+                *seen.entry(what).or_default() += count;
+            }
+        }
+        seen
+    };
+    let threads = thread::available_parallelism().map_or(1, |n| n.get());
+    let parts: Vec<Seen> = thread::scope(|scope| {
+        let started: Vec<_> = (0..threads).map(|_| scope.spawn(work)).collect();
+        started
+            .into_iter()
+            .map(|t| t.join().expect("a thread's comparison"))
+            .collect()
+    });
+    let mut seen = Seen::new();
+    for (what, count) in parts.into_iter().flatten() {
+        *seen.entry(what).or_default() += count;
+    }
+    println!("{} calls: {seen:?}", calls.load(Ordering::Relaxed));
+    every_answer_came(&seen);
+}
+
+/// Every number that a call can give was given, and with 7 every gap.
+fn every_answer_came(seen: &Seen) {
+    let calls: [(&str, &[u64]); 7] = [
+        ("open", &[0, 9, 10]),
+        ("offer", &[0, 1, 2, 3, 4, 5, 6, 7, 9]),
+        ("earliest", &[0, 1, 2, 3, 4]),
+        ("take back", &[0, 1, 8, 9]),
+        ("status", &[0, 1]),
+        ("stretch", &[0, 1]),
+        ("restore", &[0, 11]),
+    ];
+    for (call, numbers) in calls {
+        for number in numbers {
+            let found = seen.keys().any(|(c, n, _)| c == &call && n == number);
+            assert!(found, "{call} never gave {number}");
+        }
+    }
+    for gap in 1..=20 {
+        assert!(
+            seen.contains_key(&("offer", 7, gap)),
+            "no offer was too early by gap {gap}"
+        );
+        assert!(
+            seen.contains_key(&("earliest", 0, gap)),
+            "no earliest cycle by gap {gap}"
+        );
+    }
+}
+
+/// Every field of the library's state stands where the header says: the twin's state after the same calls is the same, field by field.
+#[test]
+fn the_state_field_by_field() {
+    let mut rng = Rng::new(11);
+    let mut lent = vec![0; 8000 * RECORD];
+    let mut room = lent.clone();
+    let (mut session, mut state) = (checker::fresh(), twin::fresh());
+    assert_eq!(session, state);
+    let gaps = std::array::from_fn(|i| 3 * i as u16 + 1);
+    let given = (2, 2, 1);
+    for client in [0xABCD_EF01, 0x1234_5678] {
+        assert_eq!(
+            checker::open(&mut session, &mut lent, given, client, &gaps),
+            0
+        );
+        assert_eq!(twin::open(&mut state, &mut room, given, client, &gaps), 0);
+        assert_eq!(session, state);
+        for _ in 0..3000 {
+            let (kind, rank, bank) = (rng.between(1, 7), rng.below(2), rng.below(16));
+            let bank = if kind == 5 || kind == 6 { 0 } else { bank };
+            let cycle = twin::earliest(&state, kind, rank, bank).cycle;
+            let came = checker::offer(&mut session, &mut lent, kind, rank, bank, cycle);
+            assert_eq!(
+                came,
+                twin::offer(&mut state, &mut room, kind, rank, bank, cycle)
+            );
+            if rng.chance(10) {
+                let came = checker::take_back(&mut session, &mut lent);
+                assert_eq!(came, twin::take_back(&mut state, &mut room));
+            }
+            assert_eq!(session, state);
+        }
+        assert!(lent == room);
+    }
+    let used = session.records as usize * RECORD;
+    assert_eq!(checker::restore(&lent[..used]).0, state);
+    // Every slot that a command can have was used: 7 kinds of 2 ranks, with 16 banks or 1.
+    assert_eq!(
+        state.last.iter().filter(|stamp| **stamp != 0).count(),
+        2 * (5 * 16 + 2)
+    );
+}
+
+/// Any bytes are a state value: no call faults, and a refusal hands the same state back.
+#[test]
+fn any_state_value() {
+    let mut rng = Rng::new(12);
+    for _ in 0..20_000 {
+        let mut session = any_session(&mut rng);
+        let before = session;
+        let size = rng.below(5) * RECORD as u64 + rng.below(64);
+        let mut lent: Vec<u8> = (0..size).map(|n| n as u8).collect();
+        let bytes = lent.clone();
+        let (kind, rank, bank) = (rng.below(9), rng.below(3), rng.below(17));
+        checker::earliest(&session, kind, rank, bank);
+        checker::status(&session);
+        let part = checker::stretch(&session, lent.len());
+        assert!(part.start + part.size <= lent.len());
+        let cycle = rng.draw() >> rng.below(64);
+        let number = match rng.below(3) {
+            0 => checker::offer(&mut session, &mut lent, kind, rank, bank, cycle).number,
+            1 => checker::take_back(&mut session, &mut lent),
+            _ => checker::open(&mut session, &mut lent, (1, 1, 1), 9, &SETTINGS_A),
+        };
+        if number != 0 {
+            assert_eq!(session, before);
+            assert!(lent == bytes);
+        }
+    }
+}
+
+fn any_session(rng: &mut Rng) -> Session {
+    let mut session = checker::fresh();
+    let mut any = || rng.draw() >> rng.below(64);
+    session.last.iter_mut().for_each(|x| *x = any());
+    session.activates.iter_mut().for_each(|x| *x = any());
+    for entry in &mut session.entries {
+        (entry.slot, entry.earlier) = (any(), any());
+        (entry.pushed_out, entry.latest) = (any(), any());
+    }
+    session.rounded.iter_mut().for_each(|x| *x = any());
+    (session.position, session.latest) = (any(), any());
+    (session.survivors, session.depth) = (any(), any());
+    session.records = any() % 6;
+    session.opening.ratio = any() as u8;
+    session.opening.ranks = any() as u8;
+    session.opening.mode = any() as u8;
+    session.opening.client = any() as u32;
+    session.number = any() as u32;
+    session.is_open = any() as u8;
+    session
+}
+
+/// A journal of 16,777,216 records (1 GiB) restores; one more is too long.
+#[test]
+fn a_full_journal() {
+    let mut bytes = vec![0; (MOST_RECORDS + 1) * RECORD];
+    let mut state = twin::fresh();
+    assert_eq!(
+        twin::open(&mut state, &mut bytes, (4, 2, 1), 7, &SETTINGS_A),
+        0
+    );
+    for n in 1..MOST_RECORDS as u64 {
+        let (kind, bank) = (1 + n % 4, n % 16);
+        let cycle = twin::earliest(&state, kind, n % 2, bank).cycle;
+        twin::offer(&mut state, &mut bytes, kind, n % 2, bank, cycle);
+    }
+    let end = MOST_RECORDS * RECORD;
+    let (mut session, number, _) = checker::restore(&bytes[..end]);
+    assert_eq!((number, session.records), (0, MOST_RECORDS as u64));
+    assert_eq!(session, state);
+    // The journal is full, however much is lent.
+    let came = checker::offer(&mut session, &mut bytes, 1, 0, 0, LAST_CYCLE);
+    assert_eq!(came.number, 9);
+    // The record behind the last is as good as any: it is one too many.
+    bytes.copy_within(0..RECORD, end);
+    let (session, number, record) = checker::restore(&bytes);
+    assert_eq!((number, record), (9, 0));
+    assert_eq!(session, checker::fresh());
+}

@@ -1,0 +1,216 @@
+/*
+ * Rossinhiu: a proved checker for a bench that plays a command trace into a memory module.
+ *
+ * Link target/staticlib/libcapi.a (made by `rt staticlib capi`; x86-64 Linux). It wants memcpy, memmove and memset of the C library
+ * and nothing else: no heap, no file, no thread, no global value. So calls with different states and journals may run at once.
+ *
+ * A player keeps two things: a state (struct rossinhiu_session, by value) and a journal (memory that it lends to each call).
+ * A call takes the state and hands back the next one; the old value stays what it was.
+ *
+ *     struct rossinhiu_offered r = rossinhiu_offer(state, journal, size, ROSSINHIU_ACT, 0, 3, 100);
+ *     if (r.number == ROSSINHIU_ACCEPTED) { put r.session's last record on the disc; state = r.session; act; }
+ *
+ * Whenever a call accepts, it has written one record of 64 bytes at journal + 64 * (records before the call), and changed no other
+ * byte. Whenever it refuses, it hands back the same state and has changed no byte. A state and its journal belong together: lend the
+ * same bytes each time, at any address, and as many as you like.
+ *
+ * No call can fail otherwise: any state value, any bytes and any numbers have an answer, nothing is read or written outside of what
+ * is lent, and every call ends. The meaning of the answers is promised for states that the calls reach from rossinhiu_fresh or
+ * rossinhiu_restore. The caller owes only what C asks of any function: a pointer with a size points to that many bytes that may be
+ * read (and, if the pointer is not const, written), and they are nobody else's during the call. Where the size is 0 the pointer
+ * may point anywhere, but must not be NULL.
+ *
+ * The state is 4,120 bytes, so give a thread that calls at least 64 KiB of stack.
+ */
+#ifndef ROSSINHIU_H
+#define ROSSINHIU_H
+
+#include <stddef.h>
+#include <stdint.h>
+
+#ifdef __cplusplus
+extern "C" {
+#endif
+
+/* Bytes of a record, and the most records that a journal can have. */
+#define ROSSINHIU_RECORD_SIZE 64
+#define ROSSINHIU_MAX_RECORDS 16777216
+
+/* The last cycle that a command may be offered at. */
+#define ROSSINHIU_LAST_CYCLE UINT64_C(1099511627775)
+
+/* Command kinds. */
+#define ROSSINHIU_ACT 1
+#define ROSSINHIU_RD 2
+#define ROSSINHIU_WR 3
+#define ROSSINHIU_PREPB 4
+#define ROSSINHIU_PREAB 5
+#define ROSSINHIU_REFAB 6
+#define ROSSINHIU_REFPB 7
+
+/* What `number` says. */
+#define ROSSINHIU_ACCEPTED 0        /* accepted; a question answered; a journal restored */
+#define ROSSINHIU_NO_SESSION 1      /* no session open */
+#define ROSSINHIU_BAD_KIND 2        /* command kind not 1 to 7 */
+#define ROSSINHIU_BAD_RANK 3        /* rank not below the session's ranks */
+#define ROSSINHIU_BAD_BANK 4        /* bank above 15, or not 0 with PREAB or REFAB */
+#define ROSSINHIU_PAST_LAST_CYCLE 5 /* cycle above 1,099,511,627,775 */
+#define ROSSINHIU_NOT_LATER 6       /* cycle not later than the last surviving command's */
+#define ROSSINHIU_TOO_EARLY 7       /* too early: a gap asks for a later cycle */
+#define ROSSINHIU_NO_DEPTH 8        /* nothing can be taken back: depth is 0 */
+#define ROSSINHIU_NO_ROOM 9         /* no room for a record, or a stored journal too long */
+#define ROSSINHIU_BAD_SETTINGS 10   /* ratio not 1, 2, 4; ranks not 1, 2; mode not 0, 1 */
+#define ROSSINHIU_BAD_RECORD 11     /* bad record in a restore */
+
+/*
+ * The state. Copy it, compare nothing in it and change nothing in it: its fields are named here so that its size and layout are
+ * known, and for a debugger. A stamp is a controller cycle plus 1, and 0 where there is none.
+ */
+struct rossinhiu_entry {
+    uint64_t slot;
+    uint64_t earlier;
+    uint64_t pushed_out;
+    uint64_t latest;
+};
+
+struct rossinhiu_opening {
+    uint8_t ratio;
+    uint8_t ranks;
+    uint8_t mode;
+    uint32_t client;
+};
+
+struct rossinhiu_session {
+    uint64_t last[224];
+    uint64_t activates[8];
+    struct rossinhiu_entry entries[64];
+    uint64_t position;
+    uint64_t latest;
+    uint64_t survivors;
+    uint64_t depth;
+    uint64_t records; /* the records in the journal: the next one goes to byte 64 * records */
+    uint64_t rounded[20];
+    struct rossinhiu_opening opening;
+    uint32_t number;
+    uint8_t is_open;
+};
+
+/* The twenty gaps of an opening in DRAM cycles: gap[0] is gap 1, tRC; gap[19] is gap 20, tFAW. */
+struct rossinhiu_gaps {
+    uint16_t gap[20];
+};
+
+/* The state with which a bench begins: no session is open and the journal has no record. Not all bytes 0 by promise: call this. */
+struct rossinhiu_session rossinhiu_fresh(void);
+
+/*
+ * Opens a session for a client and writes its record. `ratio` is 1, 2 or 4 DRAM cycles to a controller cycle, `ranks` 1 or 2, `mode`
+ * 0 (16 banks) or 1 (bank groups). A session that was open ends; a refused opening leaves it in force.
+ * number: 10, 9, or 0.
+ */
+struct rossinhiu_opened {
+    struct rossinhiu_session session;
+    uint64_t number;
+};
+struct rossinhiu_opened rossinhiu_open(struct rossinhiu_session session, uint8_t *journal, size_t size, uint64_t ratio,
+                                       uint64_t ranks, uint64_t mode, uint32_t client, struct rossinhiu_gaps gaps);
+
+/*
+ * Offers a command at a controller cycle, and writes its record if it is accepted. `bank` is 0 with PREAB and REFAB.
+ * number: the first that holds of 1, 2, 3, 4, 5, 6, 7, 9; else 0. With 0, `cycle` is the cycle offered and `gap` is 0. With 7, `cycle`
+ * is the earliest legal cycle and `gap` the number of the gap that asks for it. With any other number both are 0.
+ */
+struct rossinhiu_offered {
+    struct rossinhiu_session session;
+    uint64_t number;
+    uint64_t cycle;
+    uint64_t gap;
+};
+struct rossinhiu_offered rossinhiu_offer(struct rossinhiu_session session, uint8_t *journal, size_t size, uint64_t kind,
+                                         uint64_t rank, uint64_t bank, uint64_t cycle);
+
+/*
+ * Asks for the earliest cycle at which a command may stand. Nothing is written.
+ * number: the first that holds of 1, 2, 3, 4; else 0. With 0, `cycle` is that cycle, and `gap` the gap that asks for it, or 0 where no
+ * gap asks for more than the cycle after the last surviving command. The cycle may be above ROSSINHIU_LAST_CYCLE; it can't be
+ * offered then.
+ */
+struct rossinhiu_numbers {
+    uint64_t number;
+    uint64_t cycle;
+    uint64_t gap;
+};
+struct rossinhiu_numbers rossinhiu_earliest(struct rossinhiu_session session, uint64_t kind, uint64_t rank, uint64_t bank);
+
+/*
+ * Takes back the latest surviving command, and writes a record of that. At most 64 can be taken back in a row.
+ * number: the first that holds of 1, 8, 9; else 0.
+ */
+struct rossinhiu_taken_back {
+    struct rossinhiu_session session;
+    uint64_t number;
+};
+struct rossinhiu_taken_back rossinhiu_take_back(struct rossinhiu_session session, uint8_t *journal, size_t size);
+
+/*
+ * Says how the session stands: client number, record number of its opening, surviving commands, how many can be taken back, the last
+ * surviving command's cycle (0 where there is none), records in the journal.
+ * number: 1 with zeros, or 0. (With no session open read session.records for the records in the journal.)
+ */
+struct rossinhiu_status {
+    uint64_t number;
+    uint32_t client;
+    uint32_t opening;
+    uint64_t survivors;
+    uint64_t depth;
+    uint64_t last;
+    uint64_t records;
+};
+struct rossinhiu_status rossinhiu_status(struct rossinhiu_session session);
+
+/*
+ * The state that a stored journal's bytes give: all its whole records; up to 63 bytes left over are ignored.
+ * Hand in exactly the bytes that were stored, and no byte behind them: records left behind an earlier cut can be good records, and
+ * they would be somebody else's timings.
+ * number: 9 if there are more than 16,777,216 whole records; else 11 if a record is bad, with the lowest bad record's number in
+ * `record`; else 0. With 9 and 11 the state is the fresh one: nothing of the journal is in force.
+ */
+struct rossinhiu_restored {
+    struct rossinhiu_session session;
+    uint64_t number;
+    uint64_t record;
+};
+struct rossinhiu_restored rossinhiu_restore(const uint8_t *journal, size_t size);
+
+/*
+ * Where the current client's records stand in a journal of `size` bytes: from its opening to the last record, `size` bytes from
+ * journal + start on. Both are 0 if no session is open or the journal lent is too short to hold the records. start + size never
+ * goes past the journal.
+ */
+struct rossinhiu_part {
+    size_t start;
+    size_t size;
+};
+struct rossinhiu_part rossinhiu_stretch(struct rossinhiu_session session, size_t size);
+
+/*
+ * Lists a part of a stored journal: one record (64 bytes), or as many as you like. Begin with rossinhiu_fresh, and hand in the
+ * session that the part before gave. `last` is 0 if another part follows. Every part but the last has whole records; the last may
+ * have bytes left over, and may be empty. `out` has at least 64 bytes more than the part: with fewer nothing is listed and
+ * `written` is 0.
+ * `written` bytes of text stand at the front of `out`, a line for each record; behind the last part the line `end`. `ended` is 1 once
+ * the line `bad` or the line `end` is written: hand in no part after that.
+ */
+struct rossinhiu_listed {
+    struct rossinhiu_session session;
+    size_t written;
+    uint64_t ended;
+};
+struct rossinhiu_listed rossinhiu_list_part(struct rossinhiu_session session, const uint8_t *part, size_t part_size, uint64_t last,
+                                            uint8_t *out, size_t out_size);
+
+#ifdef __cplusplus
+}
+#endif
+
+#endif
