@@ -8,7 +8,7 @@
  * A call takes the state and hands back the next one; the old value stays what it was.
  *
  *     struct rossinhiu_offered r = rossinhiu_offer(state, journal, size, ROSSINHIU_ACT, 0, 3, 100);
- *     if (r.number == ROSSINHIU_ACCEPTED) { put r.session's last record on the disc; state = r.session; act; }
+ *     if (r.number == ROSSINHIU_ACCEPTED) { put r.session's last record on the disk; state = r.session; act; }
  *
  * Whenever a call accepts, it has written one record of 64 bytes at journal + 64 * (records before the call), and changed no other
  * byte. Whenever it refuses, it hands back the same state and has changed no byte. A state and its journal belong together: lend the

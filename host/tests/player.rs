@@ -1,4 +1,4 @@
-//! examples/player.c: built with gcc, played, its disc cut anywhere, and its journal held against the model. And the header: its sizes
+//! examples/player.c: built with gcc, played, its disk cut anywhere, and its journal held against the model. And the header: its sizes
 //! and offsets are the library's.
 
 use rossinhiu_host::ffi;
