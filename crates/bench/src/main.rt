@@ -2,9 +2,7 @@
 ghost use mathlib.Core.Path.{_≡_};
 ghost use lib.ListN.{length};
 use checker::restore::restore;
-use console::say::restore_beside;
 use console::say::restore_line;
-use console::say::restore_number;
 use console::words::same;
 use file::Loaded;
 use file::explain_bad;
@@ -14,6 +12,8 @@ use gather::Output;
 use gather::flush;
 use gather::say_line;
 use gather::say_newline;
+use numbers::numbers::restore_number;
+use numbers::numbers::restore_record;
 use play::run;
 use play::started;
 use session::state::Session;
@@ -52,7 +52,7 @@ fn play_restored(path: &[u8], file: i32, journal: &mut [u8], bytes: usize) {
     let done = restore(&journal[..bytes]);
     let answer = done.answer;
     let number = restore_number(answer);
-    let at = restore_beside(answer);
+    let at = restore_record(answer);
     if !is_said(restore_line(answer)) {
         return;
     }

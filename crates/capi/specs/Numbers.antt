@@ -11,7 +11,6 @@ use Rattle.listing.specs.declared.records.Listed as listing
 use Rattle.listing.specs.Run.{ListsPart}
 use Rattle.capi.specs.declared.answers.Opened.{Opened}
 use Rattle.capi.specs.declared.answers.Offered.{Offered}
-use Rattle.capi.specs.declared.answers.Numbers.{Numbers}
 use Rattle.capi.specs.declared.answers.TakenBack.{TakenBack}
 use Rattle.capi.specs.declared.answers.Status.{Status}
 use Rattle.capi.specs.declared.answers.Stretch.{Stretch}
@@ -22,9 +21,6 @@ openedReply r = plain (r .number)
 
 abbrev pub offeredReply : Offered → Reply
 offeredReply r = record { number = r .number; cycle = r .cycle; gap = r .gap }
-
-abbrev pub numbersReply : Numbers → Reply
-numbersReply r = record { number = r .number; cycle = r .cycle; gap = r .gap }
 
 abbrev pub takenBackReply : TakenBack → Reply
 takenBackReply r = plain (r .number)

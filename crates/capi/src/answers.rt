@@ -22,14 +22,6 @@ pub struct Offered {
     pub gap: u64,
 }
 
-// Document 01's number, with a cycle and a gap number beside it.
-#[repr(C)]
-pub struct Numbers {
-    pub number: u64,
-    pub cycle: u64,
-    pub gap: u64,
-}
-
 #[repr(C)]
 pub struct TakenBack {
     pub session: Session,

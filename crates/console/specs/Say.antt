@@ -10,7 +10,6 @@ use Rattle.text.specs.declared.lines.Line.{Line}
 use Rattle.text.specs.Lines.{shown}
 use Rattle.history.specs.Answers.{Reply, Status}
 use Rattle.journal.specs.Listing.{space}
-use Rattle.console.specs.declared.say.Reply.{Reply as Numbers}
 
 pub record IsLine (xs : List ℕ) (r : Line) : Type 0 where
   pub shows : shown r ≡ xs
@@ -60,7 +59,3 @@ stretchText count = numbered (text "stretch") (count ∷ []) ++ spaceBefore coun
 
 abbrev pub bytesText : ℕ → List ℕ
 bytesText count = text "bytes" ++ spaceBefore count
-
--- an answer's number and what stands beside it, as the code holds them
-abbrev pub replyIn : Numbers → Reply
-replyIn r = record { number = r .number; cycle = r .cycle; gap = r .gap }

@@ -5,10 +5,10 @@ ghost use lib.ListN.{length};
 ghost use Prim.Native.Nat.{_≤_};
 ghost use Rattle.text.specs.Text.{decimal};
 ghost use Rattle.text.specs.Lines.{Appended};
-ghost use Rattle.history.specs.Answers as answer;
 ghost use Rattle.journal.specs.Listing.{space};
 ghost use Rattle.checker.specs.Replies.{openReplied, offerReplied, earliestReplied, takeBackReplied, statusReplied, restoreNumbered, restoreBeside};
-ghost use Rattle.console.specs.Say.{IsLine, numbered, openText, replyText, offerText, askText, backText, statusText, restoreText, lendText, pokeText, malformedText, stretchText, bytesText, replyIn};
+ghost use Rattle.numbers.specs.Numbers.{numbersReply};
+ghost use Rattle.console.specs.Say.{IsLine, numbered, openText, replyText, offerText, askText, backText, statusText, restoreText, lendText, pokeText, malformedText, stretchText, bytesText};
 use checker::answers::EarliestAnswer;
 use checker::answers::OfferAnswer;
 use checker::answers::OpenAnswer;
@@ -16,116 +16,14 @@ use checker::answers::RestoreAnswer;
 use checker::answers::Status;
 use checker::answers::StatusAnswer;
 use checker::answers::TakeBackAnswer;
-use session::scan::Earliest;
+use numbers::numbers::Numbers;
+use numbers::numbers::earliest_numbers;
+use numbers::numbers::offer_numbers;
+use numbers::numbers::open_number;
+use numbers::numbers::restore_number;
+use numbers::numbers::restore_record;
+use numbers::numbers::take_back_number;
 use text::lines::Line;
-use timing::clocks::ControllerCycles;
-
-// Document 01's number, and the cycle and the gap beside it.
-struct Reply {
-    number: u64,
-    cycle: u64,
-    gap: u64,
-}
-
-fn plain(number: u64) -> Reply
-    ensures { λ r. ⌜ replyIn r ≡ answer.plain number ⌝ }
-{
-    Reply {
-        number,
-        cycle: 0,
-        gap: 0,
-    }
-}
-
-fn early(number: u64, earliest: Earliest) -> Reply
-    ensures { λ r. ⌜ replyIn r ≡ record { number = number; cycle = earliest .cycle .0; gap = earliest .gap } ⌝ }
-{
-    Reply {
-        number,
-        cycle: earliest.cycle.0,
-        gap: earliest.gap,
-    }
-}
-
-fn own(cycle: ControllerCycles) -> Reply
-    ensures { λ r. ⌜ replyIn r ≡ record { number = 0; cycle = cycle .0; gap = 0 } ⌝ }
-{
-    Reply {
-        number: 0,
-        cycle: cycle.0,
-        gap: 0,
-    }
-}
-
-fn open_number(answer: OpenAnswer) -> u64
-    ensures { λ r. ⌜ r ≡ openReplied answer .number ⌝ }
-{
-    match answer {
-        OpenAnswer::Accepted => 0,
-        OpenAnswer::NoRoom => 9,
-        OpenAnswer::BadSettings => 10,
-    }
-}
-
-fn offer_reply(answer: OfferAnswer) -> Reply
-    ensures { λ r. ⌜ replyIn r ≡ offerReplied answer ⌝ }
-{
-    match answer {
-        OfferAnswer::Accepted(cycle) => own(cycle),
-        OfferAnswer::NoSession => plain(1),
-        OfferAnswer::BadKind => plain(2),
-        OfferAnswer::BadRank => plain(3),
-        OfferAnswer::BadBank => plain(4),
-        OfferAnswer::PastLastCycle => plain(5),
-        OfferAnswer::NotLater => plain(6),
-        OfferAnswer::TooEarly(earliest) => early(7, earliest),
-        OfferAnswer::NoRoom => plain(9),
-    }
-}
-
-fn earliest_reply(answer: EarliestAnswer) -> Reply
-    ensures { λ r. ⌜ replyIn r ≡ earliestReplied answer ⌝ }
-{
-    match answer {
-        EarliestAnswer::Found(earliest) => early(0, earliest),
-        EarliestAnswer::NoSession => plain(1),
-        EarliestAnswer::BadKind => plain(2),
-        EarliestAnswer::BadRank => plain(3),
-        EarliestAnswer::BadBank => plain(4),
-    }
-}
-
-fn take_back_number(answer: TakeBackAnswer) -> u64
-    ensures { λ r. ⌜ r ≡ takeBackReplied answer .number ⌝ }
-{
-    match answer {
-        TakeBackAnswer::Accepted => 0,
-        TakeBackAnswer::NoSession => 1,
-        TakeBackAnswer::NoDepth => 8,
-        TakeBackAnswer::NoRoom => 9,
-    }
-}
-
-// A restore's number, and the record number beside it.
-pub fn restore_number(answer: RestoreAnswer) -> u64
-    ensures { λ r. ⌜ r ≡ restoreNumbered answer ⌝ }
-{
-    match answer {
-        RestoreAnswer::Restored => 0,
-        RestoreAnswer::TooLong => 9,
-        RestoreAnswer::BadRecord(_) => 11,
-    }
-}
-
-pub fn restore_beside(answer: RestoreAnswer) -> u64
-    ensures { λ r. ⌜ r ≡ restoreBeside answer ⌝ }
-{
-    match answer {
-        RestoreAnswer::Restored => 0,
-        RestoreAnswer::TooLong => 0,
-        RestoreAnswer::BadRecord(at) => at,
-    }
-}
 
 // A space and a number.
 fn also(line: Line, number: u64) -> Line
@@ -149,9 +47,9 @@ fn two(name: &[u8], first: u64, second: u64) -> Line
     also(one(name, first), second)
 }
 
-fn replied(name: &[u8], reply: Reply) -> Line
+fn replied(name: &[u8], reply: Numbers) -> Line
     requires { ⌜ length (now name) ≤ 8 ⌝ }
-    ensures { λ r. ⌜ IsLine (replyText (now (name .entry)) (replyIn reply)) r ⌝ }
+    ensures { λ r. ⌜ IsLine (replyText (now (name .entry)) (numbersReply reply)) r ⌝ }
 {
     also(two(name, reply.number, reply.cycle), reply.gap)
 }
@@ -171,13 +69,13 @@ pub fn open_line(answer: OpenAnswer) -> Line
 pub fn offer_line(answer: OfferAnswer) -> Line
     ensures { λ r. ⌜ IsLine (offerText (offerReplied answer)) r ⌝ }
 {
-    replied(b"offer", offer_reply(answer))
+    replied(b"offer", offer_numbers(answer))
 }
 
 pub fn ask_line(answer: EarliestAnswer) -> Line
     ensures { λ r. ⌜ IsLine (askText (earliestReplied answer)) r ⌝ }
 {
-    replied(b"ask", earliest_reply(answer))
+    replied(b"ask", earliest_numbers(answer))
 }
 
 pub fn back_line(answer: TakeBackAnswer) -> Line
@@ -207,7 +105,7 @@ pub fn status_line(answer: StatusAnswer) -> Line
 pub fn restore_line(answer: RestoreAnswer) -> Line
     ensures { λ r. ⌜ IsLine (restoreText (restoreNumbered answer) (restoreBeside answer)) r ⌝ }
 {
-    two(b"restore", restore_number(answer), restore_beside(answer))
+    two(b"restore", restore_number(answer), restore_record(answer))
 }
 
 pub fn lend_line(count: u64) -> Line

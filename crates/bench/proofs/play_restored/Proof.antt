@@ -19,8 +19,8 @@ restore-requires c κs = search needs
 restore-number-requires : tie.Need-restore-number-requires
 restore-number-requires c κs = search needs
 
-restore-beside-requires : tie.Need-restore-beside-requires
-restore-beside-requires c κs = search needs
+restore-record-requires : tie.Need-restore-record-requires
+restore-record-requires c κs = search needs
 
 restore-line-requires : tie.Need-restore-line-requires
 restore-line-requires c κs = search needs
@@ -64,7 +64,7 @@ play-restored-spec =
     slice-aggregate-restore
     restore-requires
     restore-number-requires
-    restore-beside-requires
+    restore-record-requires
     restore-line-requires
     is-said-requires
     same-length

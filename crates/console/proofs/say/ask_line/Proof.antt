@@ -10,16 +10,16 @@ use Rattle.console.proofs.say.ask_line.Tie as tie
 slice-aggregate-replied : tie.Need-slice-aggregate-replied
 slice-aggregate-replied c = search needs
 
-earliest-reply-requires : tie.Need-earliest-reply-requires
-earliest-reply-requires c κs = search needs
+earliest-numbers-requires : tie.Need-earliest-numbers-requires
+earliest-numbers-requires c κs = search needs
 
 replied-requires : tie.Need-replied-requires
 replied-requires c κs = search needs
 
 returns : tie.Need-returns
 unfolding text
-returns c = subst (λ (q : Reply). IsLine (replyText (text "ask") q) (c .replied .result)) (c .before .earliest-reply .ensures) (c .replied .ensures)
+returns c = subst (λ (q : Reply). IsLine (replyText (text "ask") q) (c .replied .result)) (c .before .earliest-numbers .ensures) (c .replied .ensures)
 
 pub ask-line-spec : {M : Type 1} → statement M
 ask-line-spec =
-    tie.close (tie.spec slice-aggregate-replied earliest-reply-requires replied-requires returns)
+    tie.close (tie.spec slice-aggregate-replied earliest-numbers-requires replied-requires returns)

@@ -1,5 +1,7 @@
 -- `back_line` meets its contract.
+use mathlib.Core.Path.{ap}
 use Rattle.text.specs.Text.{text}
+use Rattle.history.specs.Answers.{Reply}
 use borrow.Author.Needs.{needs}
 use Rattle.console.proofs.say.back_line.Statement.{statement}
 use Rattle.console.proofs.say.back_line.Tie as tie
@@ -15,7 +17,7 @@ one-requires c κs = search needs
 
 returns : tie.Need-returns
 unfolding text
-returns c = rw (c .before .take-back-number .ensures) at (c .one .ensures)
+returns c = rw (ap (λ (q : Reply). q .number) (c .before .take-back-number .ensures)) at (c .one .ensures)
 
 pub back-line-spec : {M : Type 1} → statement M
 back-line-spec =

@@ -10,16 +10,16 @@ use Rattle.console.proofs.say.offer_line.Tie as tie
 slice-aggregate-replied : tie.Need-slice-aggregate-replied
 slice-aggregate-replied c = search needs
 
-offer-reply-requires : tie.Need-offer-reply-requires
-offer-reply-requires c κs = search needs
+offer-numbers-requires : tie.Need-offer-numbers-requires
+offer-numbers-requires c κs = search needs
 
 replied-requires : tie.Need-replied-requires
 replied-requires c κs = search needs
 
 returns : tie.Need-returns
 unfolding text
-returns c = subst (λ (q : Reply). IsLine (replyText (text "offer") q) (c .replied .result)) (c .before .offer-reply .ensures) (c .replied .ensures)
+returns c = subst (λ (q : Reply). IsLine (replyText (text "offer") q) (c .replied .result)) (c .before .offer-numbers .ensures) (c .replied .ensures)
 
 pub offer-line-spec : {M : Type 1} → statement M
 offer-line-spec =
-    tie.close (tie.spec slice-aggregate-replied offer-reply-requires replied-requires returns)
+    tie.close (tie.spec slice-aggregate-replied offer-numbers-requires replied-requires returns)

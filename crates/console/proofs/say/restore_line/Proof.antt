@@ -10,15 +10,15 @@ slice-aggregate-two c = search needs
 restore-number-requires : tie.Need-restore-number-requires
 restore-number-requires c κs = search needs
 
-restore-beside-requires : tie.Need-restore-beside-requires
-restore-beside-requires c κs = search needs
+restore-record-requires : tie.Need-restore-record-requires
+restore-record-requires c κs = search needs
 
 two-requires : tie.Need-two-requires
 two-requires c κs = search needs
 
 returns : tie.Need-returns
 unfolding text
-returns c = rw (c .before .before .restore-number .ensures, c .before .restore-beside .ensures) at (c .two .ensures)
+returns c = rw (c .before .before .restore-number .ensures, c .before .restore-record .ensures) at (c .two .ensures)
 
 pub restore-line-spec : {M : Type 1} → statement M
 restore-line-spec =
@@ -26,6 +26,6 @@ restore-line-spec =
     (tie.spec
     slice-aggregate-two
     restore-number-requires
-    restore-beside-requires
+    restore-record-requires
     two-requires
     returns)

@@ -1,17 +1,21 @@
-// Each answer as the numbers that cross.
+// Each answer as document 01's numbers, for every place that shows or hands them on.
 ghost use mathlib.Core.Path.{_≡_};
-ghost use mathlib.Core.Bool.{cond};
 ghost use Rattle.history.specs.Answers.{plain};
-ghost use Rattle.checker.specs.Replies.{openReplied, offerReplied, earliestReplied, takeBackReplied, statusReplied, restoreNumbered, restoreBeside};
-ghost use Rattle.capi.specs.Numbers.{numbersReply, statusGiven};
-use crate::answers::Numbers;
-use crate::answers::Status;
+ghost use Rattle.checker.specs.Replies.{openReplied, offerReplied, earliestReplied, takeBackReplied, restoreNumbered, restoreBeside};
+ghost use Rattle.numbers.specs.Numbers.{numbersReply};
 use checker::answers::EarliestAnswer;
 use checker::answers::OfferAnswer;
 use checker::answers::OpenAnswer;
 use checker::answers::RestoreAnswer;
-use checker::answers::StatusAnswer;
 use checker::answers::TakeBackAnswer;
+
+// Document 01's number, with a cycle and a gap number beside it.
+#[repr(C)]
+pub struct Numbers {
+    pub number: u64,
+    pub cycle: u64,
+    pub gap: u64,
+}
 
 pub fn open_number(answer: OpenAnswer) -> u64
     ensures { λ r. ⌜ plain r ≡ openReplied answer ⌝ }
@@ -85,31 +89,6 @@ pub fn take_back_number(answer: TakeBackAnswer) -> u64
     }
 }
 
-pub fn status_numbers(answer: StatusAnswer) -> Status
-    ensures { λ r. ⌜ statusGiven r ≡ statusReplied answer ⌝ }
-{
-    match answer {
-        StatusAnswer::Known(s) => Status {
-            number: 0,
-            client: s.client,
-            opening: s.opening,
-            survivors: s.survivors,
-            depth: s.depth,
-            last: s.last.0,
-            records: s.records,
-        },
-        StatusAnswer::NoSession => Status {
-            number: 1,
-            client: 0,
-            opening: 0,
-            survivors: 0,
-            depth: 0,
-            last: 0,
-            records: 0,
-        },
-    }
-}
-
 pub fn restore_number(answer: RestoreAnswer) -> u64
     ensures { λ r. ⌜ r ≡ restoreNumbered answer ⌝ }
 {
@@ -120,6 +99,7 @@ pub fn restore_number(answer: RestoreAnswer) -> u64
     }
 }
 
+// The record that an 11 names.
 pub fn restore_record(answer: RestoreAnswer) -> u64
     ensures { λ r. ⌜ r ≡ restoreBeside answer ⌝ }
 {
@@ -128,14 +108,4 @@ pub fn restore_record(answer: RestoreAnswer) -> u64
         RestoreAnswer::TooLong => 0,
         RestoreAnswer::BadRecord(record) => record,
     }
-}
-
-// 1 where it holds, else 0.
-pub fn one_if(test: bool) -> u64
-    ensures { λ r. ⌜ r ≡ cond test 1 0 ⌝ }
-{
-    if test {
-        return 1;
-    }
-    0
 }

@@ -1,7 +1,7 @@
 -- `offer_numbers` meets its contract: case by case.
 use borrow.Author.Needs.{needs}
-use Rattle.capi.proofs.numbers.offer_numbers.Statement.{statement}
-use Rattle.capi.proofs.numbers.offer_numbers.Tie as tie
+use Rattle.numbers.proofs.numbers.offer_numbers.Statement.{statement}
+use Rattle.numbers.proofs.numbers.offer_numbers.Tie as tie
 
 enum-known-answer : tie.Need-enum-known-answer
 enum-known-answer c = search needs

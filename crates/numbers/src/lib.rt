@@ -1,0 +1,2 @@
+// Document 01's numbers for each answer.
+pub mod numbers;
