@@ -1,11 +1,11 @@
 // The earliest cycle of a command and the gap that asks for it, from the arrays. An ask is one number, cycle * 32 + 31 - gap, so that the
 // latest ask, the lowest gap first, is a maximum.
 ghost use mathlib.Core.Path.{_≡_};
-ghost use Prim.Native.Nat.{ℕ, _+_, _*_, _≤_, _<_, max};
+ghost use Prim.Native.Nat.{ℕ, _+_, _*_, _<_, max};
 ghost use lib.ListN.{getD};
 ghost use Rattle.timing.specs.Table.{gapTable};
 ghost use Rattle.session.specs.State.{roundedGaps};
-ghost use Rattle.session.specs.Scan.{stepOf, stepFor, stepsTo, askOf, scanTo, fourOf, largestAsk, unpacked, askIn};
+ghost use Rattle.session.specs.Scan.{stepOf, stepFor, stepsTo, askOf, fourOf, largestAsk, unpacked, askIn};
 use crate::stamps::read_stamp;
 use timing::clocks::ControllerCycles;
 use timing::clocks::DramCycles;
@@ -100,30 +100,6 @@ fn ask_of(kept: u64, step: u64) -> u64
     (kept - 1) * 32 + step
 }
 
-fn scan(
-    last: [ControllerCycles; 224],
-    steps: &[u64; 21],
-    opening: Opening,
-    base: usize,
-    bank: u8,
-    floor: u64,
-) -> u64
-    requires { ⌜ base + 112 ≤ 224 ⌝ }
-    requires { ⌜ ((i : ℕ) → getD (now steps) i 0 < 2097152) ⌝ }
-    ensures { λ r. ⌜ r ≡ scanTo last (now (steps .entry)) opening base bank floor 112 ⌝ }
-{
-    let mut best = floor;
-    let mut i = 0;
-    while i < 112 {
-        let near = nearness(opening, (i % 16) as u8, bank);
-        let kept = read_stamp(last[base + i]);
-        let ask = ask_of(kept.0, steps[i / 16 * 3 + near]);
-        best = larger(best, ask);
-        i += 1;
-    }
-    best
-}
-
 // What the fourth activate of the rank asks for, of an ACT; nothing of another kind.
 fn four(
     activates: [ControllerCycles; 8],
@@ -146,7 +122,8 @@ pub struct Earliest {
     pub gap: u64,
 }
 
-// Judging takes the arrays that it reads, and no more: a state by value would be copied at every call.
+// Judging takes the arrays that it reads, and no more: a state by value would be copied at every call. So would the stamps, were the
+// scan over the entries of the rank a function of its own.
 pub fn earliest_of(
     table: &[u8; 294],
     last: [ControllerCycles; 224],
@@ -160,11 +137,20 @@ pub fn earliest_of(
     ensures { λ r. ⌜ askIn r ≡ unpacked (largestAsk last activates rounded (latest .0) opening command) ⌝ }
 {
     let kind = command.kind;
+    let bank = command.bank;
     let rank = command.rank as usize % 2;
+    let base = rank * 112;
     let found = steps(table, opening, rounded, kind);
-    let floor = read_stamp(latest).0 * 32 + 31;
-    let scanned = scan(last, &found, opening, rank * 112, command.bank, floor);
-    let largest = larger(scanned, four(activates, rounded, kind, rank));
+    let mut best = read_stamp(latest).0 * 32 + 31;
+    let mut i = 0;
+    while i < 112 {
+        let near = nearness(opening, (i % 16) as u8, bank);
+        let kept = read_stamp(last[base + i]);
+        let ask = ask_of(kept.0, found[i / 16 * 3 + near]);
+        best = larger(best, ask);
+        i += 1;
+    }
+    let largest = larger(best, four(activates, rounded, kind, rank));
     Earliest {
         cycle: ControllerCycles(largest / 32),
         gap: 31 - largest % 32,
