@@ -1,6 +1,7 @@
-//! An independent program for document 01 and the bench console: a naive model,
-//! the listing, the console over the model, and a maker of scripts. It shares
-//! nothing with the product and is held against it from outside.
+//! For players: [`library`], the bench in Rust over the proved calls. For tests: a naive model of
+//! document 01, the listing and the console over the model, and a maker of scripts; the model shares
+//! nothing with the product and is held against it from outside. For the comparison of speed: two
+//! checkers written plainly.
 
 pub mod checker;
 pub mod console;
