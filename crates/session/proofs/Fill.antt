@@ -1,5 +1,6 @@
 -- A list that a loop fills from the front, one store a turn, until it is another list.
 use mathlib.Core.Path.{_≡_, refl, sym, _∙_, ap}
+use mathlib.Core.Logic.{_≢_}
 use mathlib.Core.Bool.{Bool, true, false, cond}
 use mathlib.Core.List.{List, [], _∷_, _++_}
 use Prim.Native.Nat.{ℕ, zero, suc, _+_, _-_, _*_, _/_, _%_, _<_, _≤_}
@@ -9,14 +10,14 @@ use native.Mathlib.Omega.{arith}
 use lib.Dec.{ltb, eqb, lit<}
 use lib.ListN.{length, getD, take, set, length-append, length-map, List·getD-append, List·getD-eq-default, List·getD-map}
 use lib.Seq.{take-suc, take-suc-set, take-all, getD-at}
-use borrow.Author.Tests.{ltb-true, ltb-false}
+use borrow.Author.Tests.{ltb-true, ltb-false, eqb-false}
 use Rattle.timing.specs.declared.clocks.ControllerCycles.{ControllerCycles}
 use Rattle.timing.specs.declared.clocks.DramCycles.{DramCycles}
 use Rattle.timing.specs.declared.kinds.CommandKind.{CommandKind}
 use Rattle.timing.specs.Rules.{classFor, tableGap, kindAt}
 use Rattle.timing.specs.declared.rules.Opening.{Opening}
 use Rattle.timing.specs.Clocks.{cycles, roundedUp}
-use Rattle.session.specs.State.{roundedGaps}
+use Rattle.session.specs.State.{roundedGaps, stampAt}
 use Rattle.session.specs.Scan.{tabulated, stepOf, stepFor, stepsTo}
 
 module _ {ℓ} {A : Type ℓ} (d : A) (a b : List A) where
@@ -84,3 +85,14 @@ module _ (o : Opening) (rounded : List ControllerCycles) (second : CommandKind) 
   unfolding stepsTo
   steps-below i =
       tabulated-below step-at 2097152 (lit< tt) (λ j. step-low (tableGap o (classFor (kindAt (j / 3)) second (j % 3)) (kindAt (j / 3)) second)) 21 i
+
+-- the step of gap n from the place before it; where there is no gap any place will do
+pub step-from : (rounded : List ControllerCycles) (n : ℕ) → n < 21 → cond (eqb n 0) 0 (stampAt rounded ((n + 19) % 20) .0 % 65536 * 32 + (31 - n)) ≡ stepOf rounded n
+step-from rounded n l = go (eqb n 0) refl
+  where
+    go : (t : Bool) → eqb n 0 ≡ t → cond t 0 (stampAt rounded ((n + 19) % 20) .0 % 65536 * 32 + (31 - n)) ≡ cond t 0 (stampAt rounded (n - 1) .0 % 65536 * 32 + (31 - n))
+    go true e = refl
+    go false e =
+        let some : n ≢ 0 = eqb-false n 0 e in
+        let place : (n + 19) % 20 ≡ n - 1 = omega arith in
+        ap (λ (k : ℕ). stampAt rounded k .0 % 65536 * 32 + (31 - n)) place

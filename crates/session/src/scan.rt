@@ -1,11 +1,13 @@
 // The earliest cycle of a command and the gap that asks for it, from the arrays. An ask is one number, cycle * 32 + 31 - gap, so that the
 // latest ask, the lowest gap first, is a maximum.
 ghost use mathlib.Core.Path.{_≡_};
-ghost use Prim.Native.Nat.{ℕ, _+_, _*_, _<_, max};
+ghost use mathlib.Core.Bool.{cond};
+ghost use Prim.Native.Nat.{ℕ, _+_, _-_, _*_, _%_, _<_, max};
+ghost use lib.Dec.{eqb};
 ghost use lib.ListN.{getD};
 ghost use Rattle.timing.specs.Table.{gapTable};
 ghost use Rattle.session.specs.State.{roundedGaps};
-ghost use Rattle.session.specs.Scan.{stepOf, stepFor, stepsTo, askOf, fourOf, largestAsk, unpacked, askIn};
+ghost use Rattle.session.specs.Scan.{stepsTo, askOf, fourOf, largestAsk, unpacked, askIn};
 use crate::stamps::read_stamp;
 use timing::clocks::ControllerCycles;
 use timing::clocks::DramCycles;
@@ -40,33 +42,18 @@ pub fn rounded_gaps(opening: Opening, gaps: [DramCycles; 20]) -> [ControllerCycl
     rounded
 }
 
-fn step_of(rounded: [ControllerCycles; 20], n: usize) -> u64
+// What gap n, rounded to this many cycles, adds to a stamp less 1.
+fn step_of(gap: ControllerCycles, n: usize) -> u64
     requires { ⌜ n < 21 ⌝ }
-    ensures { λ r. ⌜ (r ≡ stepOf rounded n) × (r < 2097152) ⌝ }
+    ensures { λ r. ⌜ (r ≡ cond (eqb n 0) 0 (gap .0 % 65536 * 32 + (31 - n))) × (r < 2097152) ⌝ }
 {
     if n == 0 {
         return 0;
     }
-    rounded[n - 1].0 % 65536 * 32 + (31 - n as u64)
+    gap.0 % 65536 * 32 + (31 - n as u64)
 }
 
-fn step_for(
-    table: &[u8; 294],
-    opening: Opening,
-    rounded: [ControllerCycles; 20],
-    first: CommandKind,
-    second: CommandKind,
-    near: usize,
-) -> u64
-    requires { ⌜ now table ≡ gapTable ⌝ }
-    requires { ⌜ near < 3 ⌝ }
-    ensures { λ r. ⌜ (r ≡ stepFor opening rounded first second near) × (r < 2097152) ⌝ }
-{
-    let class = class_for(first, second, near);
-    step_of(rounded, gap_number(table, opening, class, first, second))
-}
-
-// The steps from each kind, for each nearness of the banks.
+// The steps from each kind, for each nearness of the banks. Gap n stands at n - 1; where there is none any will do.
 fn steps(
     table: &[u8; 294],
     opening: Opening,
@@ -79,8 +66,11 @@ fn steps(
     let mut found = [0u64; 21];
     let mut i = 0;
     while i < 21 {
-        let step = step_for(table, opening, rounded, kind_at(i / 3), second, i % 3);
-        found[i] = step;
+        let first = kind_at(i / 3);
+        let class = class_for(first, second, i % 3);
+        let n = gap_number(table, opening, class, first, second);
+        let gap = rounded[(n + 19) % 20];
+        found[i] = step_of(gap, n);
         i += 1;
     }
     found
@@ -112,7 +102,8 @@ fn four(
 {
     if kind.number() == CommandKind::ACT {
         let kept = read_stamp(activates[rank * 4 + 3]);
-        return ask_of(kept.0, step_of(rounded, 20));
+        let gap = rounded[19];
+        return ask_of(kept.0, step_of(gap, 20));
     }
     0
 }

@@ -122,10 +122,12 @@ fn median(mut values: Vec<f64>) -> f64 {
 /// ratios to it.
 fn compare(title: &str, rounds: usize, mut contenders: Vec<Contender>) {
     let mut times = vec![Vec::new(); contenders.len()];
-    for round in 0..rounds + 2 {
+    // The first rounds warm up; three rounds over a gigabyte need none.
+    let warm = if rounds > 5 { 2 } else { 0 };
+    for round in 0..rounds + warm {
         for (contender, times) in contenders.iter_mut().zip(&mut times) {
             let time = (contender.round)();
-            if round >= 2 {
+            if round >= warm {
                 times.push(time);
             }
         }

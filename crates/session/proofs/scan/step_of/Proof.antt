@@ -9,36 +9,17 @@ use Rattle.session.proofs.scan.step_of.Tie as tie
 returns : tie.Need-returns
 returns c = (rw (eq-eqb _ _ (c .if1 .taken)), lit< tt)
 
-sub-result : tie.Need-sub-result
-sub-result c = search needs
-
 mul-result : tie.Need-mul-result
 mul-result c = search needs
 
-element-copy-out-result : tie.Need-element-copy-out-result
-element-copy-out-result c = search needs
-
-mul-result-2 : tie.Need-mul-result-2
-mul-result-2 c = search needs
-
-sub-result-2 : tie.Need-sub-result-2
-sub-result-2 c = search needs
+sub-result : tie.Need-sub-result
+sub-result c = search needs
 
 add-result : tie.Need-add-result
 add-result c = search needs
 
 returns-2 : tie.Need-returns-2
-returns-2 c = (rw (ne-eqb _ _ (c .if1 .left)), omega arith)
+returns-2 c = (rw (ne-eqb _ _ (c .before .if1 .left)), omega arith)
 
 pub step-of-spec : {M : Type 1} → statement M
-step-of-spec =
-    tie.close
-    (tie.spec
-    returns
-    sub-result
-    mul-result
-    element-copy-out-result
-    mul-result-2
-    sub-result-2
-    add-result
-    returns-2)
+step-of-spec = tie.close (tie.spec returns mul-result sub-result add-result returns-2)
