@@ -71,7 +71,7 @@ fn journal(records: usize) -> (Vec<u8>, Vec<Command>) {
                 twin::open(&mut state, &mut bytes, settings, 7, &SETTINGS_A),
                 0
             );
-        } else if n % 97 == 50 {
+        } else if n % 97 == 50 && state.depth > 0 {
             assert_eq!(twin::take_back(&mut state, &mut bytes), 0);
         } else {
             let mut command = dice.command();
@@ -122,7 +122,7 @@ fn median(mut values: Vec<f64>) -> f64 {
 /// ratios to it.
 fn compare(title: &str, rounds: usize, mut contenders: Vec<Contender>) {
     let mut times = vec![Vec::new(); contenders.len()];
-    // The first rounds warm up; three rounds over a gigabyte need none.
+    // The first rounds warm up; a few rounds over a gigabyte need none.
     let warm = if rounds > 5 { 2 } else { 0 };
     for round in 0..rounds + warm {
         for (contender, times) in contenders.iter_mut().zip(&mut times) {
@@ -414,7 +414,7 @@ fn main() {
     if full {
         let (bytes, _) = journal(MOST_RECORDS);
         let before = peak();
-        compare_restores("restore, a record of 16,777,216", 3, &bytes);
+        compare_restores("restore, a record of 16,777,216", 5, &bytes);
         println!(
             "\nMemory beyond the journal while it was restored: {} KiB",
             peak() - before
