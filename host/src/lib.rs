@@ -11,3 +11,5 @@ pub mod listing;
 pub mod model;
 pub mod source000;
 pub mod twin;
+
+pub use library::{Bench, Journal};
