@@ -1,6 +1,8 @@
-//! An independent program for document 01 and the bench console: a naive model,
-//! the listing, the console over the model, and a maker of scripts. It shares
-//! nothing with the product and is held against it from outside.
+//! Two things that share nothing. The library for players in Rust, over the
+//! product's C functions: `library` ([`Bench`], [`Journal`]), `checker`, `ffi`.
+//! And an independent program for document 01 and the bench console, held against
+//! the product from outside: a naive model, the listing, the console over the
+//! model, and a maker of scripts. `twin` and `source000` are for `bin/speed` alone.
 
 pub mod checker;
 pub mod console;
