@@ -2,7 +2,8 @@
 //! product's C functions: `library` ([`Bench`], [`Journal`]), `checker`, `ffi`.
 //! And an independent program for document 01 and the bench console, held against
 //! the product from outside: a naive model, the listing, the console over the
-//! model, and a maker of scripts. `twin` and `source000` are for `bin/speed` alone.
+//! model, and a maker of scripts. `twin` and `source000` are for `bin/speed`; a
+//! test also holds the state's layout to the twin's.
 
 pub mod checker;
 pub mod console;
