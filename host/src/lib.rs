@@ -1,7 +1,9 @@
-//! For players: [`library`], the bench in Rust over the proved calls. For tests: a naive model of
-//! document 01, the listing and the console over the model, and a maker of scripts; the model shares
-//! nothing with the product and is held against it from outside. For the comparison of speed: two
-//! checkers written plainly.
+//! Two things that share nothing. The library for players in Rust, over the
+//! product's C functions: `library` ([`Bench`], [`Journal`]), `checker`, `ffi`.
+//! And an independent program for document 01 and the bench console, held against
+//! the product from outside: a naive model, the listing, the console over the
+//! model, and a maker of scripts. `twin` and `source000` are for `bin/speed`; a
+//! test also holds the state's layout to the twin's.
 
 pub mod checker;
 pub mod console;
@@ -13,3 +15,5 @@ pub mod listing;
 pub mod model;
 pub mod source000;
 pub mod twin;
+
+pub use library::{Bench, Journal};
