@@ -447,6 +447,7 @@ fn any_session(rng: &mut Rng) -> Session {
 
 /// A journal of 16,777,216 records (1 GiB) restores; one more is too long.
 #[test]
+#[ignore = "takes a gigabyte and a minute: cargo test --release -- --ignored"]
 fn a_full_journal() {
     let mut bytes = vec![0; (MOST_RECORDS + 1) * RECORD];
     let mut state = twin::fresh();
