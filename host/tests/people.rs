@@ -59,8 +59,8 @@ fn examples_print_what_is_written() {
         assert_eq!(ran.text(), expected, "{name}");
         assert!(names.remove(name));
     }
-    // These are played by the tests below.
-    for name in ["day-1", "day-2", "power-tool-opening"] {
+    // These are played by the tests below, and by tests/player.rs.
+    for name in ["day-1", "day-2", "power-tool-opening", "player"] {
         assert!(names.remove(name));
     }
     assert!(names.is_empty(), "no test plays {names:?}");
