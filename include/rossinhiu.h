@@ -10,8 +10,8 @@
  *     struct rossinhiu_offered r = rossinhiu_offer(state, journal, size, ROSSINHIU_ACT, 0, 3, 100);
  *     if (r.number == ROSSINHIU_ACCEPTED) { put r.session's last record on the disk; state = r.session; act; }
  *
- * Whenever a call accepts, it has written one record of 64 bytes at journal + 64 * (records before the call), and changed no other
- * byte. Whenever it refuses, it hands back the same state and has changed no byte. A state and its journal belong together: lend the
+ * Whenever an opening, an offer or a take-back is accepted, it has written one record of 64 bytes at journal + 64 * (records before
+ * the call), and changed no other byte. Whenever it is refused, it hands back the same state and has changed no byte. A state and its journal belong together: lend the
  * same bytes each time, at any address, and as many as you like.
  *
  * No call can fail otherwise: any state value, any bytes and any numbers have an answer, nothing is read or written outside of what
@@ -135,12 +135,12 @@ struct rossinhiu_offered rossinhiu_offer(struct rossinhiu_session session, uint8
  * gap asks for more than the cycle after the last surviving command. The cycle may be above ROSSINHIU_LAST_CYCLE; it can't be
  * offered then.
  */
-struct rossinhiu_numbers {
+struct rossinhiu_answer {
     uint64_t number;
     uint64_t cycle;
     uint64_t gap;
 };
-struct rossinhiu_numbers rossinhiu_earliest(struct rossinhiu_session session, uint64_t kind, uint64_t rank, uint64_t bank);
+struct rossinhiu_answer rossinhiu_earliest(struct rossinhiu_session session, uint64_t kind, uint64_t rank, uint64_t bank);
 
 /*
  * Takes back the latest surviving command, and writes a record of that. At most 64 can be taken back in a row.
@@ -183,7 +183,7 @@ struct rossinhiu_restored {
 struct rossinhiu_restored rossinhiu_restore(const uint8_t *journal, size_t size);
 
 /*
- * Where the current client's records stand in a journal of `size` bytes: from its opening to the last record, `size` bytes from
+ * Where the current client's records stand in a journal of `lent` bytes: from its opening to the last record, `size` bytes from
  * journal + start on. Both are 0 if no session is open or the journal lent is too short to hold the records. start + size never
  * goes past the journal.
  */
@@ -191,7 +191,7 @@ struct rossinhiu_part {
     size_t start;
     size_t size;
 };
-struct rossinhiu_part rossinhiu_stretch(struct rossinhiu_session session, size_t size);
+struct rossinhiu_part rossinhiu_stretch(struct rossinhiu_session session, size_t lent);
 
 /*
  * Lists a part of a stored journal: one record (64 bytes), or as many as you like. Begin with rossinhiu_fresh, and hand in the

@@ -1,5 +1,5 @@
-//! The library's C functions as they are: include/rossinhiu.h in Rust. Every field of every struct is a number, so any bytes are a
-//! value of it.
+//! The library's C functions as they are: include/rossinhiu.h in Rust. Every struct is made of numbers alone, so any bytes are
+//! a value of it.
 
 /// What a take-back must put back.
 #[repr(C)]

@@ -4,48 +4,22 @@
 //! looked for beside this project, where the product's build puts them. Other
 //! seeds run on request: ROSSINHIU_SEED is the first, ROSSINHIU_SCRIPTS how many.
 
+mod common;
+
+use common::{bench, list_program, turn, LIMIT};
 use rossinhiu_host::console::Console;
 use rossinhiu_host::generate::{script, spoil, Mood, Rng, Script, BADS, MOODS};
 use rossinhiu_host::listing::list;
 use std::io::{BufRead, BufReader, Read, Write};
-use std::path::{Path, PathBuf};
+use std::path::Path;
 use std::process::{Child, Command, Stdio};
 use std::sync::mpsc::{self, Receiver, Sender};
-use std::sync::{Mutex, MutexGuard};
 use std::time::{Duration, Instant};
 use std::{env, fs, thread};
 
-/// A program that takes longer than this for one input is taken to hang.
-const LIMIT: Duration = Duration::from_secs(60);
 /// A player at a pipe does not wait longer than this for one answer.
 const ANSWER_LIMIT: Duration = Duration::from_secs(10);
 const LINES: usize = 500;
-
-/// One test at a time, so that at most a writer and a reader are at work.
-fn turn() -> MutexGuard<'static, ()> {
-    static TURN: Mutex<()> = Mutex::new(());
-    TURN.lock().unwrap_or_else(|held| held.into_inner())
-}
-
-fn program(variable: &str, name: &str) -> PathBuf {
-    let beside = Path::new(env!("CARGO_MANIFEST_DIR")).join("../target/bin");
-    let path = env::var_os(variable).map_or(beside.join(name), PathBuf::from);
-    assert!(
-        path.is_file(),
-        "the program under test, `{name}`, is not there: {}\n\
-         Build it with `rt ci` in the product's folder, or name another in {variable}.",
-        path.display()
-    );
-    path
-}
-
-fn bench() -> PathBuf {
-    program("ROSSINHIU_BENCH", "bench")
-}
-
-fn list_program() -> PathBuf {
-    program("ROSSINHIU_LIST", "list")
-}
 
 fn number(variable: &str, otherwise: u64) -> u64 {
     match env::var(variable) {

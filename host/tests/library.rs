@@ -473,3 +473,41 @@ fn a_full_journal() {
     assert_eq!((number, record), (9, 0));
     assert_eq!(session, checker::fresh());
 }
+
+/// Each call on the stack that the header asks for: one that takes more ends this test's process.
+#[test]
+fn on_64_kib_of_stack() {
+    type Call = fn(&mut Session, &mut [u8], &mut [u8]) -> u64;
+    let calls: [Call; 9] = [
+        |s, _, _| {
+            *s = checker::fresh();
+            s.records
+        },
+        |s, lent, _| checker::open(s, lent, (4, 2, 1), 7, &SETTINGS_A),
+        |s, lent, _| checker::offer(s, lent, 1, 0, 3, 100).number,
+        |s, _, _| checker::earliest(s, 2, 0, 3).number,
+        |s, lent, _| checker::take_back(s, lent),
+        |s, _, _| checker::status(s).number,
+        |s, lent, _| checker::stretch(s, lent.len()).start as u64,
+        |s, lent, _| {
+            let done = checker::restore(&lent[..3 * RECORD]);
+            *s = done.0;
+            done.1
+        },
+        |s, lent, out| {
+            *s = checker::fresh();
+            let (_, ended) = checker::list_part(s, &lent[..3 * RECORD], true, out);
+            u64::from(!ended)
+        },
+    ];
+    let mut session = Box::new(checker::fresh());
+    let (mut lent, mut out) = (vec![0; 8 * RECORD], vec![0; 8 * RECORD]);
+    for call in calls {
+        let number = thread::scope(|scope| {
+            let thread = thread::Builder::new().stack_size(64 * 1024);
+            let work = || call(&mut session, &mut lent, &mut out);
+            thread.spawn_scoped(scope, work).unwrap().join().unwrap()
+        });
+        assert_eq!(number, 0);
+    }
+}

@@ -230,7 +230,7 @@ fn the_headers_layout() {
         "rossinhiu_gaps" ffi::Gaps { gap }
         "rossinhiu_opened" ffi::Opened { session, number }
         "rossinhiu_offered" ffi::Offered { session, number, cycle, gap }
-        "rossinhiu_numbers" ffi::Numbers { number, cycle, gap }
+        "rossinhiu_answer" ffi::Numbers { number, cycle, gap }
         "rossinhiu_taken_back" ffi::TakenBack { session, number }
         "rossinhiu_status" ffi::Status { number, client, opening, survivors, depth, last, records }
         "rossinhiu_restored" ffi::Restored { session, number, record }

@@ -1,9 +1,7 @@
 // Plays a trace, written as text, into the checker, and prints each answer.
 ghost use mathlib.Core.Path.{_≡_};
 ghost use lib.ListN.{length};
-use checker::restore::restore;
 use console::say::restore_line;
-use console::words::same;
 use file::Loaded;
 use file::explain_bad;
 use file::load;
@@ -12,10 +10,10 @@ use gather::Output;
 use gather::flush;
 use gather::say_line;
 use gather::say_newline;
-use numbers::numbers::restore_number;
-use numbers::numbers::restore_record;
 use play::run;
 use play::started;
+use requests::words::same;
+use restoring::restore::restore;
 use session::state::Session;
 use text::lines::Line;
 
@@ -50,10 +48,9 @@ fn play_restored(path: &[u8], file: i32, journal: &mut [u8], bytes: usize) {
         return;
     }
     let done = restore(&journal[..bytes]);
-    let answer = done.answer;
-    let number = restore_number(answer);
-    let at = restore_record(answer);
-    if !is_said(restore_line(answer)) {
+    let number = done.number;
+    let at = done.record;
+    if !is_said(restore_line(number, at)) {
         return;
     }
     if number != 0 {

@@ -8,13 +8,13 @@ use crate::gather::flush;
 use crate::gather::say_line;
 use crate::gather::say_newline;
 use crate::gather::say_part;
-use console::in_file::in_file;
 use console::lines::keep;
 use console::lines::line_end;
-use console::requests::Parsed;
-use console::requests::parse_line;
 use console::respond::respond;
 use libc::STDIN_FILENO;
+use requests::in_file::in_file;
+use requests::requests::Parsed;
+use requests::requests::parse_line;
 use session::state::Session;
 
 // `file` is the descriptor of the journal's file, below 0 where the journal is memory alone. Once a record was not kept nothing more

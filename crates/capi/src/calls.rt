@@ -5,39 +5,34 @@ ghost use mathlib.Core.List.{[]};
 ghost use Prim.Native.Nat.{_+_, _≤_};
 ghost use lib.Dec.{eqb};
 ghost use lib.ListN.{length};
-ghost use Rattle.history.specs.Answers.{roomOf, openOn, offerOn, earliestOn, takeBackOn, statusOn};
+ghost use Rattle.history.specs.Answers.{roomOf, plain, openOn, offerOn, earliestOn, takeBackOn, statusOn};
 ghost use Rattle.session.specs.State.{freshState};
 ghost use Rattle.journal.specs.Restore.{stretchOf};
-ghost use Rattle.checker.specs.Exact.{openIn, offerIn, earliestIn, takeBackIn, statusIn, stretchIn};
-ghost use Rattle.checker.specs.Rep.{Rep};
-ghost use Rattle.checker.specs.Statements.{Called, Told, RestoreTold};
-ghost use Rattle.numbers.specs.Numbers.{numbersReply};
-ghost use Rattle.capi.specs.Numbers.{openedReply, offeredReply, takenBackReply, statusGiven, stretchGiven, Lists};
-use crate::answers::Gaps;
-use crate::answers::Listed;
-use crate::answers::Offered;
-use crate::answers::Opened;
-use crate::answers::Restored;
-use crate::answers::Status;
-use crate::answers::Stretch;
-use crate::answers::TakenBack;
-use crate::statuses::one_if;
-use crate::statuses::status_numbers;
+ghost use Rattle.statements.specs.Exact.{openIn, offerIn, earliestIn, takeBackIn, statusIn, stretchIn};
+ghost use Rattle.statements.specs.Rep.{Rep};
+ghost use Rattle.statements.specs.Statements.{Called, Told, RestoreTold};
+ghost use Rattle.judging.specs.Judged.{replyIn};
+ghost use Rattle.checker.specs.Replies.{stretchTold};
+ghost use Rattle.capi.specs.Crossing.{statusGiven, Lists};
+use crate::crossing::Gaps;
+use crate::crossing::Listed;
+use crate::crossing::Status;
+use crate::crossing::one_if;
+use crate::crossing::status_numbers;
+use checker::answers::Offered;
+use checker::answers::Opened;
+use checker::answers::Stretch;
+use checker::answers::TakenBack;
 use checker::calls::earliest;
 use checker::calls::offer;
 use checker::calls::open_session;
 use checker::calls::status;
 use checker::calls::stretch_place;
 use checker::calls::take_back;
-use checker::restore::restore;
+use judging::answers::Answer;
 use listing::records::list_part;
-use numbers::numbers::Numbers;
-use numbers::numbers::earliest_numbers;
-use numbers::numbers::offer_numbers;
-use numbers::numbers::open_number;
-use numbers::numbers::restore_number;
-use numbers::numbers::restore_record;
-use numbers::numbers::take_back_number;
+use restoring::restore::Restored;
+use restoring::restore::restore;
 use session::state::Session;
 use timing::clocks::ControllerCycles;
 
@@ -58,16 +53,10 @@ pub extern "C" fn rossinhiu_open(
     client: u32,
     gaps: Gaps,
 ) -> Opened
-    ensures { λ r. ⌜ Called (openIn (roomOf (length (now (journal .entry)))) session (record { opening = record { ratio = ratio; ranks = ranks; mode = mode; client = client }; gaps = gaps .gaps })) (λ h. openOn (roomOf (length (now (journal .entry)))) h (record { opening = record { ratio = ratio; ranks = ranks; mode = mode; client = client }; gaps = gaps .gaps })) session (now (journal .entry)) (openedReply r) (r .session) (now (journal .exit)) ⌝ }
+    ensures { λ r. ⌜ Called (openIn (roomOf (length (now (journal .entry)))) session (record { opening = record { ratio = ratio; ranks = ranks; mode = mode; client = client }; gaps = gaps .gaps })) (λ h. openOn (roomOf (length (now (journal .entry)))) h (record { opening = record { ratio = ratio; ranks = ranks; mode = mode; client = client }; gaps = gaps .gaps })) session (now (journal .entry)) (plain (r .number)) (r .session) (now (journal .exit)) ⌝ }
 {
     let given = gaps.gaps;
-    let done = open_session(session, journal, ratio, ranks, mode, client, given);
-    let answer = done.answer;
-    let next = done.session;
-    Opened {
-        session: next,
-        number: open_number(answer),
-    }
+    open_session(session, journal, ratio, ranks, mode, client, given)
 }
 
 #[no_mangle]
@@ -79,38 +68,23 @@ pub extern "C" fn rossinhiu_offer(
     bank: u64,
     cycle: u64,
 ) -> Offered
-    ensures { λ r. ⌜ Called (offerIn (roomOf (length (now (journal .entry)))) session kind rank bank cycle) (λ h. offerOn (roomOf (length (now (journal .entry)))) h kind rank bank cycle) session (now (journal .entry)) (offeredReply r) (r .session) (now (journal .exit)) ⌝ }
+    ensures { λ r. ⌜ Called (offerIn (roomOf (length (now (journal .entry)))) session kind rank bank cycle) (λ h. offerOn (roomOf (length (now (journal .entry)))) h kind rank bank cycle) session (now (journal .entry)) (replyIn (r .answer)) (r .session) (now (journal .exit)) ⌝ }
 {
-    let done = offer(session, journal, kind, rank, bank, ControllerCycles(cycle));
-    let answer = done.answer;
-    let told = offer_numbers(answer);
-    let next = done.session;
-    Offered {
-        session: next,
-        number: told.number,
-        cycle: told.cycle,
-        gap: told.gap,
-    }
+    offer(session, journal, kind, rank, bank, ControllerCycles(cycle))
 }
 
 #[no_mangle]
-pub extern "C" fn rossinhiu_earliest(session: Session, kind: u64, rank: u64, bank: u64) -> Numbers
-    ensures { λ r. ⌜ Told (earliestIn session kind rank bank) (λ h. earliestOn h kind rank bank) session (numbersReply r) ⌝ }
+pub extern "C" fn rossinhiu_earliest(session: Session, kind: u64, rank: u64, bank: u64) -> Answer
+    ensures { λ r. ⌜ Told (earliestIn session kind rank bank) (λ h. earliestOn h kind rank bank) session (replyIn r) ⌝ }
 {
-    earliest_numbers(earliest(session, kind, rank, bank))
+    earliest(session, kind, rank, bank)
 }
 
 #[no_mangle]
 pub extern "C" fn rossinhiu_take_back(session: Session, journal: &mut [u8]) -> TakenBack
-    ensures { λ r. ⌜ Called (takeBackIn (roomOf (length (now (journal .entry)))) session) (λ h. takeBackOn (roomOf (length (now (journal .entry)))) h) session (now (journal .entry)) (takenBackReply r) (r .session) (now (journal .exit)) ⌝ }
+    ensures { λ r. ⌜ Called (takeBackIn (roomOf (length (now (journal .entry)))) session) (λ h. takeBackOn (roomOf (length (now (journal .entry)))) h) session (now (journal .entry)) (plain (r .number)) (r .session) (now (journal .exit)) ⌝ }
 {
-    let done = take_back(session, journal);
-    let answer = done.answer;
-    let next = done.session;
-    TakenBack {
-        session: next,
-        number: take_back_number(answer),
-    }
+    take_back(session, journal)
 }
 
 #[no_mangle]
@@ -124,26 +98,15 @@ pub extern "C" fn rossinhiu_status(session: Session) -> Status
 pub extern "C" fn rossinhiu_restore(journal: &[u8]) -> Restored
     ensures { λ r. ⌜ RestoreTold (now (journal .entry)) (r .number) (r .«record») (r .session) ⌝ }
 {
-    let done = restore(journal);
-    let answer = done.answer;
-    let next = done.session;
-    Restored {
-        session: next,
-        number: restore_number(answer),
-        record: restore_record(answer),
-    }
+    restore(journal)
 }
 
 // Where the current client's stretch stands in a journal of so many bytes.
 #[no_mangle]
 pub extern "C" fn rossinhiu_stretch(session: Session, lent: usize) -> Stretch
-    ensures { λ r. ⌜ Told (stretchIn session lent) (λ h. stretchOf h lent) session (stretchGiven r) × (r .start + r .size ≤ lent) ⌝ }
+    ensures { λ r. ⌜ Told (stretchIn session lent) (λ h. stretchOf h lent) session (stretchTold r) × (r .start + r .size ≤ lent) ⌝ }
 {
-    let place = stretch_place(session, lent);
-    Stretch {
-        start: place.start,
-        size: place.size,
-    }
+    stretch_place(session, lent)
 }
 
 // A part of a journal whose earlier parts gave the session, one record or many; `last` is 0 if another part follows.

@@ -1,4 +1,3 @@
-// The calls for C: each is thin over a proved call, and document 01's numbers cross.
-pub mod answers;
+// The calls for C: each is a proved call; a status and a listing's end cross as numbers.
 pub mod calls;
-pub mod statuses;
+pub mod crossing;

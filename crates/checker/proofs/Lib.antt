@@ -1,10 +1,1 @@
-pub mod CallLaws
-pub mod CalledLaws
 pub mod GapLaws
-pub mod JudgeLaws
-pub mod KeepsLaws
-pub mod MeansLaws
-pub mod RestoreLaws
-pub mod RestoreMeans
-pub mod TakeLaws
-pub mod StretchLaws

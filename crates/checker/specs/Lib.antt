@@ -1,4 +1,1 @@
 pub mod Replies
-pub mod Exact
-pub mod Rep
-pub mod Statements

@@ -1,39 +1,25 @@
-// The answers, a case for each of document 01's numbers that the call can give.
-use session::scan::Earliest;
+// What each call hands back. Where the state is part of it, document 01's numbers stand beside it, and it crosses to C as it is: the
+// state would be copied to put them there later.
+use judging::answers::Answer;
 use session::state::Session;
 use timing::clocks::ControllerCycles;
 
-pub enum OpenAnswer {
-    Accepted,
-    NoRoom,
-    BadSettings,
+#[repr(C)]
+pub struct Opened {
+    pub session: Session,
+    pub number: u64,
 }
 
-pub enum OfferAnswer {
-    Accepted(ControllerCycles),
-    NoSession,
-    BadKind,
-    BadRank,
-    BadBank,
-    PastLastCycle,
-    NotLater,
-    TooEarly(Earliest),
-    NoRoom,
+#[repr(C)]
+pub struct Offered {
+    pub session: Session,
+    pub answer: Answer,
 }
 
-pub enum EarliestAnswer {
-    Found(Earliest),
-    NoSession,
-    BadKind,
-    BadRank,
-    BadBank,
-}
-
-pub enum TakeBackAnswer {
-    Accepted,
-    NoSession,
-    NoDepth,
-    NoRoom,
+#[repr(C)]
+pub struct TakenBack {
+    pub session: Session,
+    pub number: u64,
 }
 
 pub struct Status {
@@ -50,33 +36,8 @@ pub enum StatusAnswer {
     NoSession,
 }
 
-pub enum RestoreAnswer {
-    Restored,
-    TooLong,
-    BadRecord(u64),
-}
-
-pub struct Opened {
-    pub session: Session,
-    pub answer: OpenAnswer,
-}
-
-pub struct Offered {
-    pub session: Session,
-    pub answer: OfferAnswer,
-}
-
-pub struct TakenBack {
-    pub session: Session,
-    pub answer: TakeBackAnswer,
-}
-
-pub struct Restored {
-    pub session: Session,
-    pub answer: RestoreAnswer,
-}
-
 // A part of the lent journal: where it starts and how many bytes it has.
+#[repr(C)]
 pub struct Stretch {
     pub start: usize,
     pub size: usize,

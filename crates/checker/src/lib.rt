@@ -1,6 +1,3 @@
 // The calls of document 01 over a lent journal.
 pub mod answers;
 pub mod calls;
-pub mod judge;
-pub mod restore;
-pub mod take;

@@ -12,10 +12,10 @@ use Rattle.text.specs.declared.lines.Line.{Line}
 use Rattle.history.specs.Answers.{Reply, Verdict}
 use Rattle.session.specs.declared.state.Session.{Session}
 use Rattle.journal.specs.Restore.{Part, partOf}
-use Rattle.checker.specs.Exact.{Left, stretchIn, RestoredIn, Restores}
-use Rattle.console.specs.declared.requests.Parsed.{Parsed}
-use Rattle.console.specs.declared.requests.Request.{Request}
-use Rattle.console.specs.declared.requests.Request.the-variants.{Stretch}
+use Rattle.statements.specs.Exact.{Left, stretchIn, RestoredIn, Restores}
+use Rattle.requests.specs.declared.requests.Parsed.{Parsed}
+use Rattle.requests.specs.declared.requests.Request.{Request}
+use Rattle.requests.specs.declared.requests.Request.the-variants.{Stretch}
 use Rattle.console.specs.declared.respond.Response.{Response}
 use Rattle.console.specs.Say.{IsLine, restoreText, stretchText}
 use Rattle.console.specs.Respond.{prints, says, called, restores, outcomeIn, outcome, Responds}

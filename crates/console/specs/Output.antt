@@ -6,7 +6,7 @@ use Prim.Native.Nat.{ℕ, _+_, _-_, _/_, _%_, min}
 use lib.Dec.{eqb, leb, ltb}
 use lib.ListN.{length, take, drop}
 use Rattle.journal.specs.Restore.{putAt}
-use Rattle.console.specs.Places.{past}
+use Rattle.requests.specs.Places.{past}
 
 -- bytes put at a place, and the place behind them; where there is no room for all of them, nothing
 pub record Put (xs : List ℕ) (at : ℕ) (before after : List ℕ) (behind : ℕ) : Type 0 where

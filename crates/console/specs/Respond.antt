@@ -2,15 +2,15 @@
 use mathlib.Core.Path.{_≡_}
 use mathlib.Core.Bool.{cond}
 use mathlib.Core.List.{List, [], _++_}
-use Prim.Native.Nat.{ℕ, _+_, _*_, min}
-use lib.Dec.{eqb, leb, ltb}
+use Prim.Native.Nat.{ℕ, _+_, min}
+use lib.Dec.{leb, ltb}
 use lib.ListN.{length, take, drop, set}
 use Rattle.timing.specs.declared.clocks.DramCycles.{DramCycles}
 use Rattle.timing.specs.Earliest.{Settings}
 use Rattle.history.specs.Answers.{Reply, Verdict, replyOf, roomOf}
 use Rattle.session.specs.declared.state.Session.{Session}
 use Rattle.journal.specs.Restore.{bytesAfter, partOf}
-use Rattle.checker.specs.Exact.{
+use Rattle.statements.specs.Exact.{
   openIn,
   offerIn,
   earliestIn,
@@ -24,9 +24,9 @@ use Rattle.checker.specs.Exact.{
   restoredAt,
   restoredState,
 }
-use Rattle.console.specs.declared.requests.Parsed.{Parsed}
-use Rattle.console.specs.declared.requests.Request.{Request}
-use Rattle.console.specs.declared.requests.Request.the-variants.{
+use Rattle.requests.specs.declared.requests.Parsed.{Parsed}
+use Rattle.requests.specs.declared.requests.Request.{Request}
+use Rattle.requests.specs.declared.requests.Request.the-variants.{
   Nothing,
   Malformed,
   Open,

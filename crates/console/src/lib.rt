@@ -1,8 +1,5 @@
 // The console's text language: lines taken out of what was read, requests taken out of lines, and the answers as text.
-pub mod in_file;
 pub mod lines;
 pub mod output;
-pub mod requests;
 pub mod respond;
 pub mod say;
-pub mod words;

@@ -3,12 +3,10 @@ ghost use mathlib.Core.Path.{_≡_};
 ghost use mathlib.Core.List.{[]};
 ghost use Prim.Native.Nat.{_≤_, min};
 ghost use lib.ListN.{length, take};
-ghost use Rattle.checker.specs.Exact.{earliestIn, statusIn, restoreIn};
-ghost use Rattle.console.specs.declared.requests.Request.the-variants as asks;
+ghost use Rattle.statements.specs.Exact.{earliestIn, statusIn, restoreIn};
+ghost use Rattle.requests.specs.declared.requests.Request.the-variants as asks;
 ghost use Rattle.console.specs.Say.{askText, statusText, malformedText};
 ghost use Rattle.console.specs.Respond.{lends, restores, outcomeIn, outcome, Responds, Says};
-use crate::requests::Parsed;
-use crate::requests::Request;
 use crate::say::ask_line;
 use crate::say::back_line;
 use crate::say::bytes_line;
@@ -26,7 +24,9 @@ use checker::calls::open_session;
 use checker::calls::status;
 use checker::calls::stretch_place;
 use checker::calls::take_back;
-use checker::restore::restore;
+use requests::requests::Parsed;
+use requests::requests::Request;
+use restoring::restore::restore;
 use session::state::Session;
 use text::lines::Line;
 use timing::clocks::ControllerCycles;
@@ -97,9 +97,9 @@ fn opened(
         client,
         gaps,
     );
-    let answer = done.answer;
+    let number = done.number;
     let next = done.session;
-    said(next, lent, open_line(answer))
+    said(next, lent, open_line(number))
 }
 
 fn offered(
@@ -133,9 +133,9 @@ fn taken_back(session: Session, journal: &mut [u8], lent: usize) -> Response
     ensures { λ r. ⌜ Responds (outcomeIn session (now (journal .entry)) lent asks.Back []) r (now (journal .exit)) ⌝ }
 {
     let done = take_back(session, &mut journal[..lent]);
-    let answer = done.answer;
+    let number = done.number;
     let next = done.session;
-    said(next, lent, back_line(answer))
+    said(next, lent, back_line(number))
 }
 
 fn told(session: Session, lent: usize) -> Response
@@ -172,9 +172,10 @@ fn restored(journal: &[u8], lent: usize, count: u64) -> Response
 {
     let n = smaller(count, journal.len());
     let done = restore(&journal[..n]);
-    let answer = done.answer;
+    let number = done.number;
+    let record = done.record;
     let next = done.session;
-    said(next, lent, restore_line(answer))
+    said(next, lent, restore_line(number, record))
 }
 
 fn poked(session: Session, journal: &mut [u8], lent: usize, at: u64, byte: u8) -> Response

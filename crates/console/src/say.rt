@@ -1,28 +1,17 @@
 // The line of each answer.
-ghost use mathlib.Core.Path.{_≡_};
 ghost use mathlib.Core.List.{[], _∷_, _++_};
 ghost use lib.ListN.{length};
 ghost use Prim.Native.Nat.{_≤_};
 ghost use Rattle.text.specs.Text.{decimal};
 ghost use Rattle.text.specs.Lines.{Appended};
 ghost use Rattle.journal.specs.Listing.{space};
-ghost use Rattle.checker.specs.Replies.{openReplied, offerReplied, earliestReplied, takeBackReplied, statusReplied, restoreNumbered, restoreBeside};
-ghost use Rattle.numbers.specs.Numbers.{numbersReply};
+ghost use Rattle.history.specs.Answers.{plain};
+ghost use Rattle.judging.specs.Judged.{replyIn};
+ghost use Rattle.checker.specs.Replies.{statusReplied};
 ghost use Rattle.console.specs.Say.{IsLine, numbered, openText, replyText, offerText, askText, backText, statusText, restoreText, lendText, pokeText, malformedText, stretchText, bytesText};
-use checker::answers::EarliestAnswer;
-use checker::answers::OfferAnswer;
-use checker::answers::OpenAnswer;
-use checker::answers::RestoreAnswer;
 use checker::answers::Status;
 use checker::answers::StatusAnswer;
-use checker::answers::TakeBackAnswer;
-use numbers::numbers::Numbers;
-use numbers::numbers::earliest_numbers;
-use numbers::numbers::offer_numbers;
-use numbers::numbers::open_number;
-use numbers::numbers::restore_number;
-use numbers::numbers::restore_record;
-use numbers::numbers::take_back_number;
+use judging::answers::Answer;
 use text::lines::Line;
 
 // A space and a number.
@@ -47,11 +36,12 @@ fn two(name: &[u8], first: u64, second: u64) -> Line
     also(one(name, first), second)
 }
 
-fn replied(name: &[u8], reply: Numbers) -> Line
+fn answered(name: &[u8], answer: Answer) -> Line
     requires { ⌜ length (now name) ≤ 8 ⌝ }
-    ensures { λ r. ⌜ IsLine (replyText (now (name .entry)) (numbersReply reply)) r ⌝ }
+    ensures { λ r. ⌜ IsLine (replyText (now (name .entry)) (replyIn answer)) r ⌝ }
 {
-    also(two(name, reply.number, reply.cycle), reply.gap)
+    let cycle = answer.cycle;
+    also(two(name, answer.number, cycle.0), answer.gap)
 }
 
 pub fn malformed() -> Line
@@ -60,28 +50,28 @@ pub fn malformed() -> Line
     Line::empty().put(b'?')
 }
 
-pub fn open_line(answer: OpenAnswer) -> Line
-    ensures { λ r. ⌜ IsLine (openText (openReplied answer)) r ⌝ }
+pub fn open_line(number: u64) -> Line
+    ensures { λ r. ⌜ IsLine (openText (plain number)) r ⌝ }
 {
-    one(b"open", open_number(answer))
+    one(b"open", number)
 }
 
-pub fn offer_line(answer: OfferAnswer) -> Line
-    ensures { λ r. ⌜ IsLine (offerText (offerReplied answer)) r ⌝ }
+pub fn offer_line(answer: Answer) -> Line
+    ensures { λ r. ⌜ IsLine (offerText (replyIn answer)) r ⌝ }
 {
-    replied(b"offer", offer_numbers(answer))
+    answered(b"offer", answer)
 }
 
-pub fn ask_line(answer: EarliestAnswer) -> Line
-    ensures { λ r. ⌜ IsLine (askText (earliestReplied answer)) r ⌝ }
+pub fn ask_line(answer: Answer) -> Line
+    ensures { λ r. ⌜ IsLine (askText (replyIn answer)) r ⌝ }
 {
-    replied(b"ask", earliest_numbers(answer))
+    answered(b"ask", answer)
 }
 
-pub fn back_line(answer: TakeBackAnswer) -> Line
-    ensures { λ r. ⌜ IsLine (backText (takeBackReplied answer)) r ⌝ }
+pub fn back_line(number: u64) -> Line
+    ensures { λ r. ⌜ IsLine (backText (plain number)) r ⌝ }
 {
-    one(b"back", take_back_number(answer))
+    one(b"back", number)
 }
 
 fn known_line(status: Status) -> Line
@@ -102,10 +92,10 @@ pub fn status_line(answer: StatusAnswer) -> Line
     }
 }
 
-pub fn restore_line(answer: RestoreAnswer) -> Line
-    ensures { λ r. ⌜ IsLine (restoreText (restoreNumbered answer) (restoreBeside answer)) r ⌝ }
+pub fn restore_line(number: u64, record: u64) -> Line
+    ensures { λ r. ⌜ IsLine (restoreText number «record») r ⌝ }
 {
-    two(b"restore", restore_number(answer), restore_record(answer))
+    two(b"restore", number, record)
 }
 
 pub fn lend_line(count: u64) -> Line

@@ -1,20 +1,20 @@
 -- Nothing is left open: any two outcomes that a statement allows are the same, and states that stand for one history are alike.
 use mathlib.Core.Path.{_≡_, refl, sym, _∙_, ap}
-use mathlib.Core.List.{List, [], _∷_}
+use mathlib.Core.List.{List, _∷_}
 use Prim.Native.Nat.{ℕ}
 use lib.ListN.{length}
 use Rattle.history.specs.Records.{History}
-use Rattle.history.specs.Answers.{roomOf, Reply, Verdict, replyOf, nextOf}
+use Rattle.history.specs.Answers.{roomOf, Reply, Verdict, nextOf}
 use Rattle.history.specs.Struck.{Call, open-session, offer, take-back}
 use Rattle.session.specs.declared.state.Session.{Session}
-use Rattle.journal.specs.Restore.{bytesAfter, Part}
-use Rattle.checker.specs.Exact.{Left, stateAfter, RestoredIn, Restores, restoreIn}
-use Rattle.checker.specs.Rep.{Rep}
-use Rattle.checker.specs.Statements.{RestoreTold}
+use Rattle.journal.specs.Restore.{Part}
+use Rattle.statements.specs.Exact.{Left}
+use Rattle.statements.specs.Rep.{Rep}
+use Rattle.statements.specs.Statements.{RestoreTold}
 use Rattle.demands.specs.Outcomes.{Outcome, Move, Answer, replied, stated, handed, Does, by-call, by-earliest, by-status, by-stretch}
 use Rattle.demands.specs.Reached.{Reached}
-use Rattle.demands.specs.Alike.{Same, Lent, Had, Later, ends, goes, Alike}
-use Rattle.demands.proofs.MoveLaws.{answerOn, verdictOn, does-on}
+use Rattle.demands.specs.Alike.{Same, Had, ends, goes, Alike}
+use Rattle.demands.proofs.MoveLaws.{verdictOn, does-on}
 use Rattle.demands.proofs.ReachedLaws.{reached-stands}
 
 left-same : {v : Verdict} {s next next′ : Session} {lent bytes bytes′ : List ℕ} {reply reply′ : Reply} → Left v s lent reply next bytes → Left v s lent reply′ next′ bytes′

@@ -1,8 +1,8 @@
 -- How a listing ends, from the definitions of listing and restore.
-use mathlib.Core.Path.{_≡_, refl, sym, _∙_, ap, subst}
+use mathlib.Core.Path.{_≡_, refl, sym, _∙_, ap}
 use mathlib.Core.Bool.{Bool, true, false, cond}
 use mathlib.Core.List.{List, [], _∷_, _++_, append-assoc}
-use Prim.Native.Nat.{ℕ, zero, suc, _+_, _-_, _*_, _/_, _%_, _≤_, _<_}
+use Prim.Native.Nat.{ℕ, zero, suc, _+_, _/_, _%_, _≤_, _<_}
 use native.Mathlib.Omega.{arith}
 use lib.Dec.{eqb, ltb}
 use lib.ListN.{length, take}
@@ -10,11 +10,11 @@ use lib.Seq.{take-all}
 use borrow.Author.Tests.{eq-eqb, ne-eqb, ltb-true, ltb-false}
 use Rattle.history.specs.Records.{Record, History}
 use Rattle.history.specs.Answers.{maxRecords}
-use Rattle.journal.specs.Bytes.{recordSize, Held, holding, nothing}
-use Rattle.journal.specs.Restore.{pieces, wholeRecords, taken, Restored, tooLong, badAt, restored, orBad, replay, restoreOf}
+use Rattle.journal.specs.Bytes.{Held, holding, nothing}
+use Rattle.journal.specs.Restore.{wholeRecords, taken, badAt, restored, replay, restoreOf}
 use Rattle.journal.specs.Listing.{recordLine, badLine, endLine, listed, lines, listing}
 use Rattle.journal.proofs.PieceLaws.{length-pieces}
-use Rattle.demands.specs.Listings.{recordLines, EndsIn, Ending, at-bad, long-at-bad, one-too-many, at-end}
+use Rattle.demands.specs.Listings.{recordLines, Ending, at-bad, long-at-bad, one-too-many, at-end}
 
 -- records listed behind a history that has room for m more
 data From (bs : List (List ℕ)) (h : History) (m loose : ℕ) (text : List ℕ) : Type 0 where

@@ -1,15 +1,15 @@
 -- A move on a state that stands for a history comes to what it comes to on the history.
-use mathlib.Core.Path.{_≡_, refl, sym, _∙_, ap}
+use mathlib.Core.Path.{_≡_, refl, _∙_, ap}
 use mathlib.Core.List.{List}
 use Prim.Native.Nat.{ℕ}
 use lib.ListN.{length}
 use Rattle.history.specs.Records.{History}
 use Rattle.history.specs.Answers.{roomOf, plain, Verdict, refused, replyOf, nextOf, earliestOn, statusOn}
-use Rattle.history.specs.Struck.{Call, open-session, offer, take-back, verdict}
+use Rattle.history.specs.Struck.{open-session, offer, take-back, verdict}
 use Rattle.session.specs.declared.state.Session.{Session}
 use Rattle.journal.specs.Restore.{bytesAfter, Part, partOf, stretchOf}
-use Rattle.checker.specs.Rep.{Rep}
-use Rattle.demands.specs.Outcomes.{Outcome, Move, calls, asks-earliest, asks-status, asks-stretch, Answer, replied, stated, handed, Does, by-call, by-earliest, by-status, by-stretch}
+use Rattle.statements.specs.Rep.{Rep}
+use Rattle.demands.specs.Outcomes.{Move, calls, asks-earliest, asks-status, asks-stretch, Answer, replied, stated, handed, Does, by-call, by-earliest, by-status, by-stretch}
 
 abbrev pub answerOn : ℕ → History → Move → List ℕ → Answer
 answerOn room h (calls c) j = replied (replyOf (verdict room h c))

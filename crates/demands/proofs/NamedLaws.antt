@@ -1,22 +1,22 @@
 -- What the statements allow on the named runs: one list of answers each.
-use mathlib.Core.Path.{_≡_, refl, sym, _∙_, ap, subst}
+use mathlib.Core.Path.{_≡_, refl, _∙_, ap, subst}
 use mathlib.Core.Logic.{_≢_}
-use mathlib.Core.List.{List, [], _∷_, _++_}
-use Prim.Native.Nat.{ℕ, _*_}
+use mathlib.Core.List.{List, [], _∷_}
+use Prim.Native.Nat.{ℕ}
 use native.Mathlib.Omega.{arith}
 use lib.ListN.{length, getD}
 use Rattle.timing.specs.Rules.{rules, covers, matching}
 use Rattle.timing.specs.Earliest.{reach, floor, pairAsks, acts, fourAsks, asks, latest, earliest}
 use Rattle.history.specs.Records.{opening, History, standing}
-use Rattle.history.specs.Answers.{roomOf, Verdict, refused, accepted, nextOf, Reply, Status, firstOf, fits, follows, openOn, offerOn, earliestOn, takeBackOn, statusOn}
+use Rattle.history.specs.Answers.{roomOf, nextOf, Reply, Status, firstOf, fits, follows, openOn, offerOn, earliestOn, takeBackOn, statusOn}
 use Rattle.history.specs.Struck.{open-session}
 use Rattle.session.specs.declared.state.Session.{Session}
 use Rattle.session.specs.State.{freshState}
 use Rattle.journal.specs.Bytes.{le, gapBytes, bytesOf, value, gapsFrom, sameBytes, recordIn}
 use Rattle.journal.specs.Restore.{written, pieces, bytesAfter, Restored, restored, restoreNumber, historyOf, replay, restoreOf}
-use Rattle.checker.specs.Rep.{Rep}
-use Rattle.checker.specs.Statements.{RestoreTold}
-use Rattle.checker.proofs.KeepsLaws.{fresh-rep}
+use Rattle.statements.specs.Rep.{Rep}
+use Rattle.statements.specs.Statements.{RestoreTold}
+use Rattle.statements.proofs.KeepsLaws.{fresh-rep}
 use Rattle.demands.specs.Outcomes.{Outcome, Move, asks-status, Answer, replied, stated, handed, Does}
 use Rattle.demands.specs.Runs.{Plays, ends, plays}
 use Rattle.demands.specs.Named.{blank, client7, client9, shortMoves, shortAnswers, windowMoves, windowAnswers, twoOpenings}

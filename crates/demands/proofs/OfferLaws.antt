@@ -1,25 +1,25 @@
 -- An offer is accepted exactly where no line holds, and too early exactly where a gap asks for more than its cycle.
 use mathlib.Core.Path.{_≡_, refl, sym, _∙_, ap, subst}
-use mathlib.Core.Logic.{_↔_, _≢_}
+use mathlib.Core.Logic.{_↔_}
 use mathlib.Core.Bool.{Bool, true, false, cond}
 use mathlib.Core.List.{List, [], _∷_, _++_}
 use Prim.Native.Nat.{ℕ, _≤_, _<_}
 use native.Mathlib.Omega.{arith}
 use lib.Dec.{eqb, leb, ltb}
 use lib.ListN.{length}
-use borrow.Author.Tests.{eqb-true, eqb-false, eq-eqb, leb-false, leb-true, ltb-true, ltb-false}
+use borrow.Author.Tests.{eqb-true, eqb-false, leb-false, leb-true, ltb-true, ltb-false}
 use Rattle.timing.specs.declared.kinds.MaybeKind.{MaybeKind}
 use Rattle.timing.specs.declared.kinds.MaybeKind.the-variants.{Kind, NoKind}
 use Rattle.timing.specs.declared.rules.Command.{Command}
 use Rattle.timing.specs.Kinds.{kindOf}
-use Rattle.timing.specs.Earliest.{Stamped, Standing, Ask, AsksFor, LaterThanLast, Legal, NamedGap, cycleAfter, floor, earliest}
+use Rattle.timing.specs.Earliest.{Stamped, Standing, Ask, LaterThanLast, Legal, cycleAfter, floor, earliest}
 use Rattle.timing.proofs.Legal.{legal-from, named-gap}
 use Rattle.history.specs.Records.{Record, opening, command, takeBack, History, Current, closed, session, standing}
-use Rattle.history.specs.Answers.{Line, _gives_, firstOf, roomOf, openLines, placeLines, stampLines, afterLines, depthLines, roomLines, offerLines, offerReply, earliestReply, Reply, plain, named, Verdict, refused, accepted, replyOf, offerCase, earliestCase, offerOn}
+use Rattle.history.specs.Answers.{Line, _gives_, firstOf, roomOf, openLines, placeLines, stampLines, afterLines, depthLines, roomLines, offerLines, offerReply, earliestReply, Reply, plain, named, refused, accepted, replyOf, offerCase, earliestCase, offerOn}
 use Rattle.history.specs.Struck.{open-session, offer, take-back, current, recordsIn}
 use Rattle.history.proofs.AnswerLaws.{first-on}
 use Rattle.session.specs.declared.state.Session.{Session}
-use Rattle.checker.specs.Rep.{Rep}
+use Rattle.statements.specs.Rep.{Rep}
 use Rattle.demands.specs.Outcomes.{Outcome, Move, calls, asks-earliest, asks-status, asks-stretch, Answer, replied, stated, handed, Does}
 use Rattle.demands.specs.Runs.{Event, numberIn, lasting, Run, answerAt}
 use Rattle.demands.specs.Reached.{Reached}

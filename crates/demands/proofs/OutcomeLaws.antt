@@ -3,13 +3,13 @@ use mathlib.Core.Path.{refl, ap}
 use mathlib.Core.List.{List}
 use Prim.Native.Nat.{ℕ}
 use lib.ListN.{length}
-use Rattle.history.specs.Answers.{roomOf, Reply, Verdict, replyOf}
+use Rattle.history.specs.Answers.{roomOf, Verdict, replyOf}
 use Rattle.history.specs.Struck.{Call, open-session, offer, take-back}
 use Rattle.session.specs.declared.state.Session.{Session}
 use Rattle.journal.specs.Restore.{bytesAfter, Part, partOf}
-use Rattle.checker.specs.Exact.{stateAfter, openIn, offerIn, earliestIn, takeBackIn, statusIn, stretchIn}
-use Rattle.checker.proofs.CalledLaws.{TypedCall, called-left, told}
-use Rattle.checker.proofs.MeansLaws.{open-means, offer-means, earliest-means, take-back-means, status-means, stretch-means}
+use Rattle.statements.specs.Exact.{stateAfter, openIn, offerIn, earliestIn, takeBackIn, statusIn, stretchIn}
+use Rattle.statements.proofs.CalledLaws.{TypedCall, called-left, told}
+use Rattle.statements.proofs.MeansLaws.{open-means, offer-means, earliest-means, take-back-means, status-means, stretch-means}
 use Rattle.demands.specs.Outcomes.{Outcome, Move, calls, asks-earliest, asks-status, asks-stretch, Answer, replied, stated, handed, Does, by-call, by-earliest, by-status, by-stretch}
 
 pub record Some (m : Move) (s : Session) (lent : List ℕ) : Type 0 where

@@ -15,17 +15,18 @@ use Rattle.timing.specs.declared.rules.Command.{Command}
 use Rattle.timing.specs.Kinds.{kindOf}
 use Rattle.timing.specs.Earliest.{Settings, Ask}
 use Rattle.history.specs.Records.{Record, opening, command, takeBack}
-use Rattle.history.specs.Answers.{Line, _gives_, firstOf, roomOf, placeLines, openLines, depthLines, roomLines, offerLines, Reply, plain, named, Status, earliestOn, earliestReply, statusOn, Verdict, refused, accepted, replyOf, openReply, offerReply, takeBackReply}
+use Rattle.history.specs.Answers.{Line, _gives_, firstOf, roomOf, placeLines, openLines, depthLines, roomLines, offerLines, Reply, plain, named, Status, earliestOn, earliestReply, statusOn, Verdict, refused, accepted, replyOf, offerReply}
 use Rattle.history.specs.Struck.{Call, open-session, offer, take-back}
 use Rattle.session.specs.declared.state.Session.{Session}
-use Rattle.journal.specs.Bytes.{recordSize, bytesOf}
+use Rattle.journal.specs.Bytes.{recordSize}
 use Rattle.session.specs.State.{freshState}
 use Rattle.journal.specs.Bytes.{recordSize}
-use Rattle.journal.specs.Restore.{putAt, bytesAfter, Part, noPart, partOf, stretchOf}
-use Rattle.checker.specs.Statements.{Told, RestoreTold}
-use Rattle.checker.specs.Exact.{earliestIn, earliestInCase, statusIn, statusInCase, stretchIn, stretchInCase, RestoredIn, tooLong, badAt, restored, restoredNumber, restoredAt, restoredState, restoreIn, isClosed, openIn, offerIn, offerInCase, takeBackIn, takeBackInCase, stateAfter, Left, afterIn, earlyIn}
+use Rattle.journal.specs.Restore.{Part, noPart, partOf, stretchOf}
+use Rattle.statements.specs.Statements.{Told, RestoreTold}
+use Rattle.judging.specs.Judged.{isClosed, afterIn, earlyIn}
+use Rattle.statements.specs.Exact.{earliestIn, earliestInCase, statusIn, statusInCase, stretchIn, stretchInCase, RestoredIn, tooLong, badAt, restored, restoredNumber, restoredAt, restoredState, restoreIn, openIn, offerIn, offerInCase, takeBackIn, takeBackInCase, Left}
 use Rattle.demands.specs.Outcomes.{Outcome}
-use Rattle.demands.specs.Plainly.{ownNumbers, ownCycle, Writes, Plainly, EarliestPlainly, StatusPlainly, StretchPlainly, RestorePlainly}
+use Rattle.demands.specs.Plainly.{ownNumbers, ownCycle, Plainly, EarliestPlainly, StatusPlainly, StretchPlainly, RestorePlainly}
 
 -- a verdict that shows only what a call with these numbers and this cycle may show
 pub record Shows (own : List ℕ) (cycle : ℕ) (r : Reply) (taken : Bool) : Type 0 where

@@ -2,29 +2,28 @@
 use mathlib.Core.Path.{_≡_, refl, sym, _∙_, ap, subst}
 use mathlib.Core.Bool.{Bool, true, false, cond}
 use mathlib.Core.List.{List, [], _∷_, _++_}
-use Prim.Native.Nat.{ℕ, zero, suc, _+_, _-_, _*_, _/_, _≤_, _<_, min}
+use Prim.Native.Nat.{ℕ, suc, _+_, _-_, _*_, _/_, _≤_, _<_, min}
 use native.Mathlib.Omega.{arith}
 use lib.Dec.{leb}
 use lib.ListN.{length, take, drop, length-append, length-drop, take-append-drop}
-use lib.Seq.{take-at, drop-at, drop-drop, take-append-le, drop-append-le, take-take, length-take-le}
+use lib.Seq.{drop-drop, take-append-le, drop-append-le, take-take}
 use borrow.Author.Tests.{leb-true, leb-false, le-leb}
-use Rattle.timing.specs.Kinds.{kindOf}
-use Rattle.history.specs.Records.{Record, History, Current, closed, session, standing}
-use Rattle.history.specs.Answers.{maxRecords, roomOf, Reply, Verdict, refused, accepted, replyOf, nextOf, openCase, offerCase, earliestCase, takeBackCase, statusCase, openOn, offerOn, earliestOn, takeBackOn, statusOn}
-use Rattle.history.specs.Struck.{Call, open-session, offer, take-back, Answered, unrefused, recordsOf, current, recordsIn, verdict, Told, nothing-yet, then}
+use Rattle.history.specs.Records.{History, Current, closed, session, standing}
+use Rattle.history.specs.Answers.{maxRecords, roomOf, Verdict, refused, accepted, replyOf, nextOf, openOn, offerOn, earliestOn, takeBackOn, statusOn}
+use Rattle.history.specs.Struck.{Call, open-session, offer, take-back, Answered, unrefused, recordsOf, recordsIn, verdict, Told, nothing-yet, then}
 use Rattle.history.proofs.AnswerLaws.{Passed, call-passed}
 use Rattle.history.proofs.StandingLaws.{Below, number-below}
 use Rattle.history.proofs.CurrentLaws.{told-kept, told-current}
 use Rattle.session.specs.declared.state.Session.{Session}
 use Rattle.session.specs.State.{freshState}
-use Rattle.journal.specs.Bytes.{recordSize, bytesOf}
-use Rattle.journal.specs.Restore.{written, putAt, bytesAfter, Restored, restored, restoreNumber, restoreAt, historyOf, restoreOf, Part, noPart, partOf, stretchCase, stretchOf}
-use Rattle.checker.specs.Rep.{AllSized, Rep}
-use Rattle.checker.specs.Statements.{RestoreTold}
-use Rattle.checker.proofs.KeepsLaws.{fresh-rep}
-use Rattle.demands.specs.Outcomes.{Move, calls, asks-earliest, asks-status, asks-stretch, Answer, replied, stated, handed, Does}
-use Rattle.demands.specs.Runs.{Event, moved, failed, rightAfter, numberIn, noted, lasting, Run, starts, moves, fails, answerAt, answerBy, Plays, ends, plays, Placed, putAll, SamePuts, GoesOnAs}
-use Rattle.demands.proofs.MoveLaws.{answerOn, verdictOn, Done, does-on}
+use Rattle.journal.specs.Bytes.{bytesOf}
+use Rattle.journal.specs.Restore.{written, putAt, bytesAfter, restored, restoreNumber, restoreAt, historyOf, restoreOf, Part, partOf, stretchCase, stretchOf}
+use Rattle.statements.specs.Rep.{AllSized, Rep}
+use Rattle.statements.specs.Statements.{RestoreTold}
+use Rattle.statements.proofs.KeepsLaws.{fresh-rep}
+use Rattle.demands.specs.Outcomes.{Move, calls, asks-earliest, asks-status, asks-stretch, Answer, handed, Does}
+use Rattle.demands.specs.Runs.{Event, rightAfter, numberIn, noted, lasting, Run, starts, moves, fails, answerAt, answerBy, Plays, ends, plays, Placed, putAll, GoesOnAs}
+use Rattle.demands.proofs.MoveLaws.{answerOn, verdictOn, does-on}
 use Rattle.demands.proofs.WrittenLaws.{length-written, put-behind, older, older-all, older-less, older-length, written-older, restore-cut}
 
 -- a state and a journal that hold a history: the journal begins with its bytes, and behind them is as it was first

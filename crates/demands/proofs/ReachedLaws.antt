@@ -7,8 +7,8 @@ use Rattle.history.specs.Answers.{roomOf, Reply, nextOf}
 use Rattle.history.specs.Struck.{Call, open-session, offer, take-back, verdict}
 use Rattle.session.specs.declared.state.Session.{Session}
 use Rattle.journal.specs.Restore.{historyOf, restoreOf}
-use Rattle.checker.specs.Rep.{Rep}
-use Rattle.checker.proofs.KeepsLaws.{fresh-rep}
+use Rattle.statements.specs.Rep.{Rep}
+use Rattle.statements.proofs.KeepsLaws.{fresh-rep}
 use Rattle.demands.specs.Outcomes.{Outcome}
 use Rattle.demands.specs.Reached.{Reached, from-fresh, by-call, by-restore}
 

@@ -1,21 +1,21 @@
 -- The bytes of a history, and what a restore of any first bytes of them gives.
-use mathlib.Core.Path.{_≡_, refl, sym, _∙_, ap, subst}
-use mathlib.Core.Bool.{Bool, true, false, cond, _&&_}
+use mathlib.Core.Path.{_≡_, refl, sym, _∙_, ap}
+use mathlib.Core.Bool.{Bool, true, false, _&&_}
 use mathlib.Core.List.{List, [], _∷_, _++_, append-nil}
 use Prim.Native.Nat.{ℕ, zero, suc, _+_, _-_, _*_, _/_, _≤_, _<_}
 use native.Mathlib.Omega.{arith}
-use lib.Dec.{T, leb, ltb}
+use lib.Dec.{T, leb}
 use lib.ListN.{length, take, drop, length-append, length-drop, take-append-drop}
-use lib.Seq.{take-at, drop-at, drop-drop, drop-append-add, take-append-le, take-all, take-take, length-take-le}
+use lib.Seq.{take-at, drop-append-add, take-append-le, take-all, take-take, length-take-le}
 use borrow.Author.Tests.{leb-true, leb-false, le-ltb}
 use Rattle.timing.proofs.Truth.{and-left, and-right, true-is}
 use Rattle.history.specs.Records.{Record, History, standing}
 use Rattle.history.specs.Answers.{maxRecords, fits, follows, fine}
-use Rattle.journal.specs.Bytes.{recordSize, bytesOf, Sized, Held, holding, nothing, recordIn}
-use Rattle.journal.specs.Restore.{written, putAt, pieces, passed, taken, Restored, tooLong, badAt, restored, orBad, replay, restoreOf, historyOf}
+use Rattle.journal.specs.Bytes.{bytesOf, Sized, Held, holding, nothing}
+use Rattle.journal.specs.Restore.{written, putAt, pieces, taken, restored, orBad, replay, restoreOf, historyOf}
 use Rattle.journal.proofs.Codec.{bytes-size, read-written}
 use Rattle.journal.proofs.PieceLaws.{pieces-join}
-use Rattle.checker.specs.Rep.{AllSized}
+use Rattle.statements.specs.Rep.{AllSized}
 
 pub length-written : (h : History) → AllSized h → length (written h) ≡ 64 * length h
 unfolding written

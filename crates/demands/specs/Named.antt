@@ -3,7 +3,6 @@ use mathlib.Core.List.{List, [], _∷_, _++_}
 use Prim.Native.Nat.{ℕ}
 use Rattle.timing.specs.Earliest.{Settings}
 use Rattle.history.specs.Records.{opening}
-use Rattle.history.specs.Answers.{Reply, Status}
 use Rattle.history.specs.Cases.{settings, gapsA, changed, gaps, reply}
 use Rattle.history.specs.Struck.{open-session, offer, take-back}
 use Rattle.journal.specs.Bytes.{zeros, bytesOf}

@@ -2,12 +2,12 @@
 use mathlib.Core.List.{List}
 use Prim.Native.Nat.{ℕ}
 use lib.ListN.{length}
-use Rattle.history.specs.Answers.{roomOf, Reply, Verdict, Status, openOn, offerOn, earliestOn, takeBackOn, statusOn}
+use Rattle.history.specs.Answers.{roomOf, Reply, Status, openOn, offerOn, earliestOn, takeBackOn, statusOn}
 use Rattle.history.specs.Struck.{Call, open-session, offer, take-back}
 use Rattle.session.specs.declared.state.Session.{Session}
 use Rattle.journal.specs.Restore.{Part, partOf, stretchOf}
-use Rattle.checker.specs.Exact.{openIn, offerIn, earliestIn, takeBackIn, statusIn, stretchIn}
-use Rattle.checker.specs.Statements.{Called, Told}
+use Rattle.statements.specs.Exact.{openIn, offerIn, earliestIn, takeBackIn, statusIn, stretchIn}
+use Rattle.statements.specs.Statements.{Called, Told}
 
 -- an outcome of a call that may write: from a state and lent bytes to a reply, a state and bytes
 abbrev pub Outcome : Call → Session → List ℕ → Reply → Session → List ℕ → Type 0

@@ -5,7 +5,7 @@ use Rattle.history.specs.Answers.{Reply}
 use Rattle.history.specs.Struck.{Call}
 use Rattle.session.specs.declared.state.Session.{Session}
 use Rattle.session.specs.State.{freshState}
-use Rattle.checker.specs.Statements.{RestoreTold}
+use Rattle.statements.specs.Statements.{RestoreTold}
 use Rattle.demands.specs.Outcomes.{Outcome}
 
 pub data Reached : Session → Type 0 where

@@ -1,1 +1,1 @@
-// Theorems only: the customer's demands, over what the calls of the checker promise.
+// Definitions and theorems only: the customer's demands, over what the calls of the checker promise.

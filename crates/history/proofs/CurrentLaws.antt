@@ -1,21 +1,13 @@
 -- What stands, the count of records and the records themselves, read off the calls and answers of any run.
-use mathlib.Core.Path.{_≡_, refl, sym, _∙_, ap, subst}
-use mathlib.Core.Logic.{_≢_}
+use mathlib.Core.Path.{_≡_, refl, _∙_, ap, subst}
 use mathlib.Core.List.{List, [], _∷_, _++_, map}
-use Prim.Native.Nat.{ℕ, zero, suc, _+_, _-_, min}
-use lib.Dec.{eqb}
+use Prim.Native.Nat.{ℕ, suc, _+_, _-_, min}
 use lib.ListN.{length}
-use borrow.Author.Tests.{eq-eqb, ne-eqb}
-use Rattle.timing.specs.declared.kinds.CommandKind.{CommandKind}
-use Rattle.timing.specs.declared.kinds.MaybeKind.{MaybeKind}
-use Rattle.timing.specs.declared.kinds.MaybeKind.the-variants.{Kind, NoKind}
-use Rattle.timing.specs.declared.rules.Command.{Command}
-use Rattle.timing.specs.Kinds.{kindOf, codeOf}
 use Rattle.timing.specs.Earliest.{Settings, Stamped, Standing}
 use Rattle.timing.proofs.KindLaws.{kind-of-code}
-use Rattle.history.specs.Records.{Record, opening, command, takeBack, History, Current, closed, session, standing, pushed, popped, deepest}
-use Rattle.history.specs.Answers.{Verdict, refused, accepted, replyOf, nextOf}
-use Rattle.history.specs.Struck.{Call, open-session, offer, take-back, Answered, unrefused, struck, openingNumber, depthAfter, withCommand, recordsOf, survivorsIn, openedIn, current, recordsIn, verdict, Told, nothing-yet, then, offerOf, rest}
+use Rattle.history.specs.Records.{opening, command, takeBack, History, Current, closed, session, standing, deepest}
+use Rattle.history.specs.Answers.{Verdict, replyOf, nextOf}
+use Rattle.history.specs.Struck.{Call, open-session, Answered, unrefused, openingNumber, depthAfter, recordsOf, survivorsIn, openedIn, current, recordsIn, verdict, Told, nothing-yet, then, offerOf, rest}
 use Rattle.history.proofs.AnswerLaws.{Shape, refuses, opens, stamps, withdraws, shape}
 use Rattle.history.proofs.StruckLaws.{struck-stands, unrefused-not, unrefused-yes}
 

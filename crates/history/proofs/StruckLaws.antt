@@ -1,24 +1,21 @@
 -- What the customer's strike-out leaves of any run is what stands of its accepted records.
 use mathlib.Core.Path.{_≡_, refl, sym, _∙_, ap, subst}
 use mathlib.Core.Logic.{_≢_}
-use mathlib.Core.Bool.{Bool, true, false, cond, not}
 use mathlib.Core.List.{List, [], _∷_, _++_, map, tail}
 use Prim.Native.Nat.{ℕ, zero, suc, _+_, _-_, _≤_, min}
 use native.Mathlib.Omega.{arith}
-use lib.Dec.{eqb, leb}
 use lib.ListN.{drop}
 use native.Mathlib.Nat.{not-suc-le-zero}
 use borrow.Author.Tests.{eq-eqb, ne-eqb}
 use Rattle.timing.specs.declared.kinds.CommandKind.{CommandKind}
-use Rattle.timing.specs.declared.kinds.MaybeKind.{MaybeKind}
-use Rattle.timing.specs.declared.kinds.MaybeKind.the-variants.{Kind, NoKind}
+use Rattle.timing.specs.declared.kinds.MaybeKind.the-variants.{Kind}
 use Rattle.timing.specs.declared.rules.Command.{Command}
-use Rattle.timing.specs.Kinds.{kindOf, codeOf}
+use Rattle.timing.specs.Kinds.{kindOf}
 use Rattle.timing.specs.Earliest.{Settings, Stamped, Standing}
-use Rattle.history.specs.Records.{Record, opening, command, takeBack, History, Current, closed, session, standing, pushed, popped, deepest}
+use Rattle.history.specs.Records.{opening, History, Current, closed, session, standing, pushed, popped, deepest}
 use Rattle.timing.proofs.KindLaws.{code-of-kind}
 use Rattle.history.proofs.AnswerLaws.{Shape, refuses, opens, stamps, withdraws, shape}
-use Rattle.history.specs.Answers.{Verdict, refused, accepted, replyOf, nextOf, openOn, offerOn, takeBackOn, plain}
+use Rattle.history.specs.Answers.{Verdict, replyOf, nextOf}
 use Rattle.history.specs.Struck.{Call, open-session, offer, take-back, Answered, unrefused, untaken, sinceOpening, struck, verdict, Told, nothing-yet, then, offerOf, rest}
 
 -- the depth, and the calls of what stands with the n latest commands left out

@@ -1,13 +1,12 @@
 -- The cases checked by hand, K1 to K13: settings, the records that stand, a question, and the answer that it must get.
 use mathlib.Core.Bool.{Bool, true, _&&_}
 use mathlib.Core.List.{List, [], _∷_, _++_, map, reverse}
-use Prim.Native.Nat.{ℕ, _+_, _-_}
+use Prim.Native.Nat.{ℕ, _-_}
 use lib.Dec.{eqb}
 use lib.ListN.{set}
 use Rattle.timing.specs.declared.clocks.DramCycles.{DramCycles}
 use Rattle.timing.specs.declared.kinds.CommandKind.{CommandKind}
 use Rattle.timing.specs.declared.kinds.CommandKind.the-variants.{Act, Rd, Wr, Prepb, Preab, Refab, Refpb}
-use Rattle.timing.specs.declared.rules.Command.{Command}
 use Rattle.timing.specs.Kinds.{codeOf}
 use Rattle.timing.specs.Earliest.{Settings}
 use Rattle.history.specs.Records.{Record, opening, command, takeBack, History}

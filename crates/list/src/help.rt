@@ -21,7 +21,7 @@ pub fn print() {
         b"  bad NUMBER                     the listing ends at this record: a restore answers 11\n",
     );
     say(
-        b"A journal holds at most 16777216 records; a restore answers a longer one with 9, the listing ends with bad 16777216.\n",
+        b"A journal holds at most 16777216 records; a restore answers a longer one with 9, and its listing ends at its first bad record, or with bad 16777216.\n",
     );
 }
 

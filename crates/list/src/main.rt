@@ -1,10 +1,10 @@
 // Standard input to standard output: the listing of a journal.
 ghost use mathlib.Core.Path.{_≡_};
 ghost use lib.ListN.{length};
-use console::words::same;
 use libc::STDIN_FILENO;
 use libc::STDOUT_FILENO;
 use listing::records::list_part;
+use requests::words::same;
 use session::state::Session;
 
 mod help;

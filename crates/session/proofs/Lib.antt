@@ -1,3 +1,4 @@
 pub mod Fill
 pub mod RepLaws
 pub mod ScanLaws
+pub mod StoreLaws

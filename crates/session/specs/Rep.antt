@@ -3,7 +3,7 @@
 use mathlib.Core.Path.{_≡_}
 use mathlib.Core.Bool.{cond}
 use mathlib.Core.List.{List, [], _∷_, map}
-use Prim.Native.Nat.{ℕ, _+_, _-_, _*_, _/_, _%_, _<_, _≤_}
+use Prim.Native.Nat.{ℕ, _+_, _-_, _%_, _<_, _≤_}
 use lib.Dec.{T, eqb}
 use lib.ListN.{length, getD, drop}
 use Rattle.timing.specs.declared.clocks.ControllerCycles.{ControllerCycles}
@@ -12,7 +12,7 @@ use Rattle.timing.specs.declared.rules.Command.{Command}
 use Rattle.timing.specs.Clocks.{cycles}
 use Rattle.timing.specs.Kinds.{sameKind}
 use Rattle.timing.specs.Earliest.{Stamped, cycleAfter, acts}
-use Rattle.session.specs.declared.state.TakeBack.{TakeBack}
+use Rattle.session.specs.declared.state.Entry.{Entry}
 use Rattle.session.specs.declared.state.Session.{Session}
 use Rattle.session.specs.Stamps.{cycleBound}
 use Rattle.session.specs.State.{slotOf, stampAt, noEntry}
@@ -50,7 +50,7 @@ Rising [] = Unit {0}
 Rising (x ∷ xs) = Placed (x .command) (x .cycle) × (cycleAfter xs ≤ x .cycle) × Rising xs
 
 -- an entry puts back what stood before the newest of these survivors
-abbrev pub Undoes : TakeBack → List Stamped → Type 0
+abbrev pub Undoes : Entry → List Stamped → Type 0
 Undoes e [] = Unit {0}
 Undoes e (x ∷ xs) =
     (e .slot ≡ slotOf (x .command))

@@ -10,17 +10,14 @@ use Rattle.timing.specs.declared.rules.Opening.{Opening}
 use Rattle.timing.specs.declared.rules.Command.{Command}
 use Rattle.timing.specs.Clocks.{cycles, roundedUp}
 use Rattle.timing.specs.Kinds.{codeOf}
-use Rattle.session.specs.declared.state.TakeBack.{TakeBack}
+use Rattle.session.specs.declared.state.Entry.{Entry}
 use Rattle.session.specs.declared.state.Session.{Session}
 use Rattle.session.specs.Stamps.{stored}
 
-abbrev pub noEntry : TakeBack
+abbrev pub noEntry : Entry
 noEntry = record { slot = 0; earlier = cycles 0; «pushed_out» = cycles 0; latest = cycles 0 }
 
 -- the place of a rank, kind and bank among the last stamps
-abbrev pub slotCount : ℕ
-slotCount = 224
-
 abbrev pub slotOf : Command → ℕ
 slotOf c = (c .rank % 2 * 7 + (codeOf (c .kind) - 1)) * 16 + c .bank % 16
 
@@ -91,7 +88,7 @@ openedState records o gaps =
       «is_open» = 1;
     }
 
-abbrev pub entryFor : Session → ℕ → TakeBack
+abbrev pub entryFor : Session → ℕ → Entry
 entryFor s slot = record { slot = slot; earlier = stampAt (s .last) slot; «pushed_out» = fourthOf (s .activates) slot; latest = s .latest }
 
 unfoldable pub pushedState : Session → Command → ℕ → Session
@@ -114,7 +111,7 @@ pushedState s c t =
 abbrev pub backOf : Session → ℕ
 backOf s = (s .position % 64 + 63) % 64
 
-abbrev pub entryBack : Session → TakeBack
+abbrev pub entryBack : Session → Entry
 entryBack s = getD (s .entries) (backOf s) noEntry
 
 unfoldable pub poppedState : Session → Session

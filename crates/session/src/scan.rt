@@ -113,7 +113,7 @@ pub struct Earliest {
     pub gap: u64,
 }
 
-// Judging takes the arrays that it reads, and no more: a state by value would be copied at every call. So would the stamps, were the
+// It takes the arrays that it reads, and no more: a state by value would be copied at every call. So would the stamps, were the
 // scan over the entries of the rank a function of its own.
 pub fn earliest_of(
     table: &[u8; 294],

@@ -2,13 +2,12 @@
 ghost use mathlib.Core.Path.{_≡_};
 ghost use Rattle.session.specs.State.{freshState};
 use timing::clocks::ControllerCycles;
-use timing::clocks::DramCycles;
 use timing::rules::Opening;
 
 // What a take-back must put back: the slot of the command taken back, the stamp that stood there before it, the activate that it
 // pushed out of the four, and the stamp of the survivor before it.
 #[repr(C)]
-pub struct TakeBack {
+pub struct Entry {
     pub slot: u64,
     pub earlier: ControllerCycles,
     pub pushed_out: ControllerCycles,
@@ -22,7 +21,7 @@ pub struct Session {
     // The four latest activates of each rank, newest first.
     pub activates: [ControllerCycles; 8],
     // The ring of take-back entries; `position` is where the next goes.
-    pub entries: [TakeBack; 64],
+    pub entries: [Entry; 64],
     pub position: u64,
     // The stamp of the last survivor.
     pub latest: ControllerCycles,
@@ -46,7 +45,7 @@ impl Session {
         Session {
             last: [ControllerCycles(0); 224],
             activates: [ControllerCycles(0); 8],
-            entries: [TakeBack {
+            entries: [Entry {
                 slot: 0,
                 earlier: ControllerCycles(0),
                 pushed_out: ControllerCycles(0),

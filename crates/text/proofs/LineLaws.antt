@@ -1,8 +1,8 @@
 -- Laws of a line under way, and of decimal digits.
-use mathlib.Core.Path.{_≡_, refl, sym, _∙_, ap, subst}
-use mathlib.Core.Bool.{Bool, true, false, cond}
+use mathlib.Core.Path.{_≡_, refl, sym, _∙_}
+use mathlib.Core.Bool.{Bool, true, false}
 use mathlib.Core.List.{List, [], _∷_, _++_, append-assoc, append-nil}
-use Prim.Native.Nat.{ℕ, zero, suc, _+_, _*_, _-_, _/_, _%_, _^_, _≤_, _<_}
+use Prim.Native.Nat.{ℕ, zero, suc, _+_, _-_, _/_, _%_, _^_, _≤_, _<_}
 use native.Mathlib.Nat.{pow-suc, div-lt-iff-lt-mul}
 use native.Mathlib.Numerals.{add-one}
 use native.Mathlib.Omega.{arith}
@@ -12,7 +12,7 @@ use lib.Seq.{take-suc, take-suc-set, drop-cons, drop-set-lt, getD-set-same}
 use borrow.Author.Tests.{le-ltb, lt-ltb, ltb-false}
 use Rattle.text.specs.declared.lines.Line.{Line}
 use Rattle.text.specs.Text.{digits}
-use Rattle.text.specs.Lines.{lineSize, shown, Appended}
+use Rattle.text.specs.Lines.{shown, Appended}
 
 -- one byte stored behind what is shown
 pub put-shown : (bytes : List ℕ) (at b : ℕ) → length bytes ≡ 128 → at < 128 → take (at + 1) (set bytes at b) ≡ take at bytes ++ (b ∷ [])

@@ -1,7 +1,6 @@
 // A line under way. What does not fit is left out; a caller whose line fits gets every byte.
 ghost use mathlib.Core.Path.{_≡_};
 ghost use mathlib.Core.List.{[], _∷_};
-ghost use lib.ListN.{length};
 ghost use Rattle.text.specs.Text.{decimal};
 ghost use Rattle.text.specs.Lines.{shown, Appended};
 

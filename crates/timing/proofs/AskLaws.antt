@@ -1,11 +1,10 @@
 -- Laws of the order on asks: the latest of a list is above all of it, is one of it, and is the only such.
-use mathlib.Core.Path.{_≡_, refl, sym, _∙_, ap, subst}
+use mathlib.Core.Path.{_≡_, refl, sym, _∙_, subst}
 use mathlib.Core.Logic.{_⊎_, inl, inr, ⊎-elim}
 use mathlib.Core.Bool.{Bool, true, false, cond, _&&_, _||_}
 use mathlib.Core.List.{List, [], _∷_, List·Memᴰ, List·Memᴰ·head, List·Memᴰ·tail, List·Memᴰ·cases-cons, List·Memᴰ·not-nil}
-use Prim.Native.Nat.{ℕ, _≤_, _<_}
+use Prim.Native.Nat.{_≤_}
 use native.Mathlib.Omega.{arith}
-use lib.Dec.{ltb, eqb}
 use borrow.Author.Tests.{ltb-true, ltb-false, eqb-true, eqb-false}
 use Rattle.timing.specs.Earliest.{Ask, forLater, forSame, withLower, later, latest}
 
@@ -27,11 +26,6 @@ pub ≼-trans : {a b c : Ask} → a ≼ b → b ≼ c → a ≼ c
 
 pub ask-path : (a b : Ask) → a .cycle ≡ b .cycle → a .gap ≡ b .gap → a ≡ b
 ask-path a b p q = λ i. record { cycle = p i; gap = q i }
-
-pub ≼-antisym : (a b : Ask) → a ≼ b → b ≼ a → a ≡ b
-≼-antisym a b p q =
-    let ec : a .cycle ≡ b .cycle = omega arith in
-    ask-path a b ec (omega (arith, p .gap ec, q .gap (sym ec)))
 
 -- `later` is one of the two and above both
 pub later-one : (a b : Ask) → (later a b ≡ a) ⊎ (later a b ≡ b)
@@ -69,8 +63,3 @@ latest-one a (b ∷ bs) =
     ⊎-elim (λ e. inr (List·Memᴰ·head e))
     (λ e. ⊎-elim (λ f. inl (e ∙ f)) (λ m. inr (List·Memᴰ·tail (subst (λ (x : Ask). List·Memᴰ x bs) (sym e) m))) (latest-one a bs))
     (later-one b (latest a bs))
-
--- the latest is at most every upper bound, so two lists with the same upper bounds have the same latest
-pub latest-least : (a : Ask) (bs : List Ask) (u : Ask) → a ≼ u → ((b : Ask) → List·Memᴰ b bs → b ≼ u) → latest a bs ≼ u
-latest-least a bs u ha hb =
-    ⊎-elim (λ (e : latest a bs ≡ a). subst (λ (x : Ask). x ≼ u) (sym e) ha) (λ (m : List·Memᴰ (latest a bs) bs). hb (latest a bs) m) (latest-one a bs)

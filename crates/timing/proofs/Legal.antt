@@ -1,12 +1,12 @@
 -- The worded rule and the computed one agree: a cycle is legal exactly if it is at or after the earliest cycle, and the gap named there is
 -- the one that the wording names.
 use mathlib.Core.Path.{_≡_, refl, sym, _∙_, ap, subst}
-use mathlib.Core.Logic.{_⊎_, inl, inr, ⊎-elim, _↔_, _≢_}
-use mathlib.Core.Bool.{Bool, true, false, cond, _&&_}
-use mathlib.Core.List.{List, [], _∷_, _++_, map, List·Memᴰ, List·Memᴰ·head, List·Memᴰ·tail, List·Memᴰ·cases-cons, List·Memᴰ·not-nil, List·Memᴰ·eq-of-singleton, List·Memᴰ·append-cases, Memᴰ·append-left, Memᴰ·append-right, Memᴰ·cast}
-use Prim.Native.Nat.{ℕ, zero, suc, _+_, _≤_, _<_}
+use mathlib.Core.Logic.{inl, inr, ⊎-elim, _↔_, _≢_}
+use mathlib.Core.Bool.{Bool, true, false, cond}
+use mathlib.Core.List.{List, [], _∷_, map, List·Memᴰ, List·Memᴰ·head, List·Memᴰ·tail, List·Memᴰ·cases-cons, List·Memᴰ·not-nil, List·Memᴰ·eq-of-singleton, List·Memᴰ·append-cases, Memᴰ·append-left, Memᴰ·append-right, Memᴰ·cast}
+use Prim.Native.Nat.{ℕ, zero, suc, _≤_, _<_}
 use native.Mathlib.Omega.{arith}
-use lib.Dec.{T, eqb, ltb, ltb→lt}
+use lib.Dec.{T, eqb}
 use lib.ListN.{take, drop}
 use Rattle.timing.specs.declared.kinds.CommandKind.{CommandKind}
 use Rattle.timing.specs.declared.kinds.CommandKind.the-variants.{Act}
@@ -204,10 +204,6 @@ module _ (st : Standing) (c : Command) where
 
   abbrev start : Ask
   start = record { cycle = floor st; gap = 0 }
-
-  pub floor-first : floor st ≤ earliest st c .cycle
-  unfolding earliest
-  floor-first = latest-above-first start (asks st c) .cycle
 
   -- c is legal at t exactly if t is at or after the earliest cycle
   pub legal-from : (t : ℕ) → Legal st c t ↔ earliest st c .cycle ≤ t

@@ -1,6 +1,6 @@
 -- Rounding up gives, for any ratio above 0, the smallest number of controller cycles that lasts at least the gap; 0 stays 0.
 use mathlib.Core.Path.{_≡_}
-use Prim.Native.Nat.{ℕ, _+_, _-_, _*_, _/_, _≤_, _<_}
+use Prim.Native.Nat.{ℕ, _+_, _-_, _*_, _≤_, _<_}
 use native.Mathlib.Nat.{lt-div-mul-add, div-lt-iff-lt-mul, div-eq-of-lt}
 use native.Mathlib.Omega.{arith}
 use Rattle.timing.specs.Clocks.{ceilDiv}

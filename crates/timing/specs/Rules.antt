@@ -1,14 +1,13 @@
 -- Groups, classes, modes, and the rules 1 to 19 as a list.
 use mathlib.Core.Bool.{Bool, true, false, cond, _&&_, _||_}
 use mathlib.Core.List.{List, [], _∷_}
-use Prim.Native.Nat.{ℕ, suc, _+_, _-_, _*_, _/_, _%_}
+use Prim.Native.Nat.{ℕ, _/_}
 use lib.Dec.{eqb, ltb}
-use lib.ListN.{length}
 use Rattle.timing.specs.declared.kinds.CommandKind.{CommandKind}
 use Rattle.timing.specs.declared.kinds.CommandKind.the-variants.{Act, Rd, Wr, Prepb, Preab, Refab, Refpb}
 use Rattle.timing.specs.declared.rules.Opening.{Opening}
 use Rattle.timing.specs.declared.rules.Command.{Command}
-use Rattle.timing.specs.Kinds.{codeOf, sameKind, allBanks}
+use Rattle.timing.specs.Kinds.{sameKind, allBanks}
 
 -- eight groups of two banks, in every mode
 abbrev pub groupOf : Opening → ℕ → ℕ

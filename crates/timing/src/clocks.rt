@@ -10,7 +10,7 @@ pub struct DramCycles(pub u16);
 pub struct ControllerCycles(pub u64);
 
 impl DramCycles {
-    // The controller cycles that a gap asks for. No opening has ratio 0; a state value may, and is answered 0.
+    // The controller cycles that a gap asks for. No opening that passes line 10 has ratio 0; for that the answer is 0.
     pub fn rounded(self, opening: Opening) -> ControllerCycles
         ensures { λ r. ⌜ r ≡ cycles (roundedUp opening self) ⌝ }
     {

@@ -58,40 +58,32 @@ impl Dice {
     }
 }
 
-/// A journal of so many records, and the commands in it: an opening at every 10,000th record, a take-back at every 97th.
-fn journal(records: usize) -> (Vec<u8>, Vec<Command>) {
+/// One more command, accepted at its earliest cycle.
+fn played(state: &mut ffi::Session, bytes: &mut [u8], dice: &mut Dice) -> Command {
+    let mut c = dice.command();
+    c.cycle = twin::earliest(state, c.kind, c.rank, c.bank).cycle;
+    let answer = twin::offer(state, bytes, c.kind, c.rank, c.bank, c.cycle);
+    assert_eq!(answer.number, 0);
+    c
+}
+
+/// A journal of so many records: an opening at every 10,000th, a take-back once in so many.
+fn journal(records: usize, once_in: usize) -> Vec<u8> {
     let mut dice = Dice(20_260_001);
     let mut bytes = vec![0; records * RECORD];
     let mut state = twin::fresh();
-    let mut commands = Vec::new();
     for n in 0..records {
         if n % 10_000 == 0 {
             let settings = (RATIO, RANKS, MODE);
-            assert_eq!(
-                twin::open(&mut state, &mut bytes, settings, 7, &SETTINGS_A),
-                0
-            );
-        } else if n % 97 == 50 && state.depth > 0 {
+            let number = twin::open(&mut state, &mut bytes, settings, 7, &SETTINGS_A);
+            assert_eq!(number, 0);
+        } else if n % once_in == once_in / 2 && state.depth > 0 {
             assert_eq!(twin::take_back(&mut state, &mut bytes), 0);
         } else {
-            let mut command = dice.command();
-            command.cycle = twin::earliest(&state, command.kind, command.rank, command.bank).cycle;
-            let Command {
-                kind,
-                rank,
-                bank,
-                cycle,
-            } = command;
-            assert_eq!(
-                twin::offer(&mut state, &mut bytes, kind, rank, bank, cycle).number,
-                0
-            );
-            if commands.len() < OFFERS {
-                commands.push(command);
-            }
+            played(&mut state, &mut bytes, &mut dice);
         }
     }
-    (bytes, commands)
+    bytes
 }
 
 /// Nanoseconds of one contender's round, for each operation in it.
@@ -158,23 +150,9 @@ fn trace() -> Vec<Command> {
     let mut dice = Dice(99);
     let mut state = opened();
     let mut room = vec![0; (OFFERS + 1) * RECORD];
-    let mut commands = Vec::new();
-    for _ in 0..OFFERS {
-        let mut command = dice.command();
-        command.cycle = twin::earliest(&state, command.kind, command.rank, command.bank).cycle;
-        let Command {
-            kind,
-            rank,
-            bank,
-            cycle,
-        } = command;
-        assert_eq!(
-            twin::offer(&mut state, &mut room, kind, rank, bank, cycle).number,
-            0
-        );
-        commands.push(command);
-    }
-    commands
+    (0..OFFERS)
+        .map(|_| played(&mut state, &mut room, &mut dice))
+        .collect()
 }
 
 type Offer = fn(&mut ffi::Session, &mut [u8], u64, u64, u64, u64) -> ffi::Numbers;
@@ -408,11 +386,13 @@ fn main() {
     compare_offers("refused offer (7)", &state, &trace, &early);
     compare_earliest(&state, &trace);
     compare_take_backs(&state);
-    let (bytes, _) = journal(100_000);
+    let bytes = journal(100_000, 2);
+    compare_restores("restore, every second record a take-back", 31, &bytes);
+    let bytes = journal(100_000, 97);
     compare_restores("restore, a record of 100,000", 31, &bytes);
     compare_listings(&bytes);
     if full {
-        let (bytes, _) = journal(MOST_RECORDS);
+        let bytes = journal(MOST_RECORDS, 97);
         let before = peak();
         compare_restores("restore, a record of 16,777,216", 5, &bytes);
         println!(

@@ -1,5 +1,5 @@
 -- `play_restored` meets its contract.
-use Rattle.console.proofs.SliceLaws.{front-size}
+use Rattle.requests.proofs.SliceLaws.{front-size}
 use borrow.Author.Needs.{needs}
 use Rattle.bench.proofs.play_restored.Statement.{statement}
 use Rattle.bench.proofs.play_restored.Tie as tie
@@ -15,12 +15,6 @@ slice-aggregate-restore c = let a = c .before .before .before .before .args in f
 
 restore-requires : tie.Need-restore-requires
 restore-requires c κs = search needs
-
-restore-number-requires : tie.Need-restore-number-requires
-restore-number-requires c κs = search needs
-
-restore-record-requires : tie.Need-restore-record-requires
-restore-record-requires c κs = search needs
 
 restore-line-requires : tie.Need-restore-line-requires
 restore-line-requires c κs = search needs
@@ -63,8 +57,6 @@ play-restored-spec =
     slice-reshare-prefix-restore
     slice-aggregate-restore
     restore-requires
-    restore-number-requires
-    restore-record-requires
     restore-line-requires
     is-said-requires
     same-length

@@ -1,5 +1,5 @@
 -- `last_turn` meets its contract.
-use Rattle.console.proofs.SliceLaws.{front-size}
+use Rattle.requests.proofs.SliceLaws.{front-size}
 use borrow.Author.Needs.{needs}
 use Rattle.bench.proofs.play.last_turn.Statement.{statement}
 use Rattle.bench.proofs.play.last_turn.Tie as tie

@@ -1,5 +1,5 @@
 -- `read_on` meets its contract.
-use Rattle.console.proofs.SliceLaws.{front-size}
+use Rattle.requests.proofs.SliceLaws.{front-size}
 use borrow.Author.Needs.{needs}
 use Rattle.bench.proofs.play.read_on.Statement.{statement}
 use Rattle.bench.proofs.play.read_on.Tie as tie

@@ -1,5 +1,5 @@
 -- `rossinhiu_fresh` meets its contract.
-use Rattle.checker.proofs.KeepsLaws.{fresh-rep}
+use Rattle.statements.proofs.KeepsLaws.{fresh-rep}
 use borrow.Author.Needs.{needs}
 use Rattle.capi.proofs.calls.rossinhiu_fresh.Statement.{statement}
 use Rattle.capi.proofs.calls.rossinhiu_fresh.Tie as tie

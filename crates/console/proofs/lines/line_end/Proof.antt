@@ -5,7 +5,7 @@ use Prim.Native.Nat.{_-_}
 use lib.ListN.{length}
 use borrow.Author.Tests.{eq-eqb, ne-eqb}
 use Rattle.console.specs.Output.{inLine, lineEnd}
-use Rattle.console.proofs.PlaceLaws.{past-here, past-next, past-end}
+use Rattle.requests.proofs.PlaceLaws.{past-here, past-next, past-end}
 use borrow.Author.Needs.{needs}
 use Rattle.console.proofs.lines.line_end.Statement.{statement}
 use Rattle.console.proofs.lines.line_end.Tie as tie

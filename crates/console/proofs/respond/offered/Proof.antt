@@ -1,9 +1,9 @@
 -- `offered` meets its contract.
 use lib.ListN.{length, take}
 use Rattle.history.specs.Answers.{roomOf}
-use Rattle.checker.specs.Exact.{offerIn}
+use Rattle.statements.specs.Exact.{offerIn}
 use Rattle.console.specs.Say.{offerText}
-use Rattle.console.proofs.SliceLaws.{front-size}
+use Rattle.requests.proofs.SliceLaws.{front-size}
 use Rattle.console.proofs.RespondLaws.{called-is}
 use borrow.Author.Needs.{needs}
 use Rattle.console.proofs.respond.offered.Statement.{statement}
@@ -29,9 +29,9 @@ same-length c = search needs
 
 returns : tie.Need-returns
 returns c =
-    let a = c .before .before .before .before .before .before .before .before .args in
+    let a = c .before .before .before .before .before .before .before .before .before .args in
     let j = a .journal .now in
-    called-is _ (a .lent) (c .before .offer-line .result) (c .said .result) (c .said .ensures) offerText (offerIn (roomOf (length (take (a .lent) j))) (a .session) (a .kind) (a .rank) (a .bank) (a .cycle)) (a .session) j _ _ (c .before .before .before .before .before .offer .ensures .exact) (c .before .offer-line .ensures)
+    called-is _ (a .lent) (c .before .offer-line .result) (c .said .result) (c .said .ensures) offerText (offerIn (roomOf (length (take (a .lent) j))) (a .session) (a .kind) (a .rank) (a .bank) (a .cycle)) (a .session) j _ _ (c .before .before .before .before .before .before .offer .ensures .exact) (c .before .offer-line .ensures)
 
 pub offered-spec : {M : Type 1} → statement M
 offered-spec =

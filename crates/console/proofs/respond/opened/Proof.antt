@@ -1,10 +1,10 @@
 -- `opened` meets its contract.
 use lib.ListN.{length, take}
 use Rattle.history.specs.Answers.{roomOf}
-use Rattle.checker.specs.Exact.{openIn}
+use Rattle.statements.specs.Exact.{openIn}
 use Rattle.console.specs.Say.{openText}
 use Rattle.console.specs.Respond.{settingsOf}
-use Rattle.console.proofs.SliceLaws.{front-size}
+use Rattle.requests.proofs.SliceLaws.{front-size}
 use Rattle.console.proofs.RespondLaws.{called-is}
 use borrow.Author.Needs.{needs}
 use Rattle.console.proofs.respond.opened.Statement.{statement}

@@ -4,9 +4,9 @@ use mathlib.Core.List.{List}
 use Prim.Native.Nat.{ℕ}
 use native.Mathlib.Omega.{arith}
 use lib.ListN.{take}
-use Rattle.checker.specs.Exact.{restoreIn}
+use Rattle.statements.specs.Exact.{restoreIn}
 use Rattle.console.specs.Respond.{restores, Responds}
-use Rattle.console.proofs.SliceLaws.{front-size}
+use Rattle.requests.proofs.SliceLaws.{front-size}
 use Rattle.console.proofs.RespondLaws.{restores-is, take-least}
 use borrow.Author.Needs.{needs}
 use Rattle.console.proofs.respond.restored.Statement.{statement}

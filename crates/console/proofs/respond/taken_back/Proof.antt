@@ -1,9 +1,9 @@
 -- `taken_back` meets its contract.
 use lib.ListN.{length, take}
 use Rattle.history.specs.Answers.{roomOf}
-use Rattle.checker.specs.Exact.{takeBackIn}
+use Rattle.statements.specs.Exact.{takeBackIn}
 use Rattle.console.specs.Say.{backText}
-use Rattle.console.proofs.SliceLaws.{front-size}
+use Rattle.requests.proofs.SliceLaws.{front-size}
 use Rattle.console.proofs.RespondLaws.{called-is}
 use borrow.Author.Needs.{needs}
 use Rattle.console.proofs.respond.taken_back.Statement.{statement}

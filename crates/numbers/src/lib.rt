@@ -1,2 +1,0 @@
-// Document 01's numbers for each answer.
-pub mod numbers;

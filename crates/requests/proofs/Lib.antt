@@ -1,0 +1,5 @@
+pub mod SliceLaws
+pub mod PlaceLaws
+pub mod WordLaws
+pub mod RequestLaws
+pub mod Examples

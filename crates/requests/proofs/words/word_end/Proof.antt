@@ -1,0 +1,62 @@
+-- `word_end` meets its contract.
+use mathlib.Core.Path.{_≡_, refl, sym, _∙_, ap}
+use mathlib.Core.Bool.{not}
+use Prim.Native.Nat.{_-_}
+use lib.ListN.{length}
+use Rattle.requests.specs.Places.{past}
+use Rattle.requests.specs.Words.{inWord}
+use Rattle.requests.proofs.PlaceLaws.{past-here, past-next, past-end}
+use borrow.Author.Needs.{needs}
+use Rattle.requests.proofs.words.word_end.Statement.{statement}
+use Rattle.requests.proofs.words.word_end.Tie as tie
+
+abbrev Inv-loop : tie.InvT-loop
+Inv-loop line from i₀ i = past inWord line from ≡ past inWord line i
+
+abbrev μ-loop : tie.MeasureT-loop
+μ-loop line from i₀ i = length line - i
+
+loop-holds : tie.Need-loop-holds Inv-loop μ-loop
+loop-holds c = refl
+
+shared-slice-read-is-blank : tie.Need-shared-slice-read-is-blank Inv-loop μ-loop
+shared-slice-read-is-blank c = search needs
+
+is-blank-requires : tie.Need-is-blank-requires Inv-loop μ-loop
+is-blank-requires c κs = search needs
+
+returns : tie.Need-returns Inv-loop μ-loop
+returns c =
+    let l = c .before .before .before .before .loop in
+    let line = c .before .before .before .before .before .before .args .line .now in
+    sym (l .inv ∙ past-here inWord line (l .i) (c .before .before .before .loop-test .taken) (ap not (sym (c .before .is-blank .ensures) ∙ c .if1 .taken)))
+
+add-i : tie.Need-add-i Inv-loop μ-loop
+add-i c = search needs
+
+loop-less : tie.Need-loop-less Inv-loop μ-loop
+loop-less c = search needs
+
+loop-again : tie.Need-loop-again Inv-loop μ-loop
+loop-again c =
+    let l = c .before .before .before .before .loop in
+    let line = c .before .before .before .before .before .before .args .line .now in
+    l .inv ∙ past-next inWord line (l .i) (c .before .before .before .loop-test .taken) (ap not (sym (c .before .is-blank .ensures) ∙ c .if1 .left))
+
+returns-2 : tie.Need-returns-2 Inv-loop μ-loop
+returns-2 c = sym (c .before .loop .inv ∙ past-end inWord (c .before .before .before .args .line .now) (c .before .loop .i) (c .loop-test .left))
+
+pub word-end-spec : {M : Type 1} → statement M
+word-end-spec =
+    tie.close
+    (tie.spec
+    Inv-loop
+    μ-loop
+    loop-holds
+    shared-slice-read-is-blank
+    is-blank-requires
+    returns
+    add-i
+    loop-less
+    loop-again
+    returns-2)

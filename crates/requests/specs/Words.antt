@@ -1,0 +1,84 @@
+-- A line's words, and words as numbers.
+use mathlib.Core.Bool.{Bool, true, false, cond, not, _&&_, _||_}
+use mathlib.Core.List.{List, [], _∷_, _++_}
+use Prim.Native.Nat.{ℕ, _+_, _-_, _*_}
+use lib.Dec.{eqb, leb}
+use lib.ListN.{length, replicate}
+use Rattle.requests.specs.declared.words.Word.{Word}
+use Rattle.requests.specs.declared.words.Number.{Number}
+use Rattle.requests.specs.declared.words.Number.the-variants.{Value, NoNumber}
+use Rattle.requests.specs.declared.words.Numbers.{Numbers}
+use Rattle.requests.specs.Places.{past}
+
+-- a space or a tab
+abbrev pub isBlank : ℕ → Bool
+isBlank b = eqb b 32 || eqb b 9
+
+abbrev pub inWord : ℕ → Bool
+inWord b = not (isBlank b)
+
+-- a word before others, if it is one
+abbrev pub before : List ℕ → List (List ℕ) → List (List ℕ)
+before [] ws = ws
+before (b ∷ bs) ws = (b ∷ bs) ∷ ws
+
+-- the bytes before the first blank, and the words behind it
+unfoldable pub frontWord : List ℕ → List ℕ
+frontWord [] = []
+frontWord (b ∷ bs) = cond (inWord b) (b ∷ frontWord bs) []
+
+unfoldable pub laterWords : List ℕ → List (List ℕ)
+laterWords [] = []
+laterWords (b ∷ bs) = cond (inWord b) (laterWords bs) (before (frontWord bs) (laterWords bs))
+
+-- THE WORDS OF A LINE
+abbrev pub words : List ℕ → List (List ℕ)
+words line = before (frontWord line) (laterWords line)
+
+-- where the next word stands; an empty one where no word is left
+abbrev pub wordAt : List ℕ → ℕ → Word
+wordAt line from = let start = past isBlank line from in record { start = start; end = past inWord line start }
+
+unfoldable pub sameWord : List ℕ → List ℕ → Bool
+sameWord [] [] = true
+sameWord [] (b ∷ bs) = false
+sameWord (a ∷ xs) [] = false
+sameWord (a ∷ xs) (b ∷ bs) = eqb a b && sameWord xs bs
+
+-- decimal digits, and what they come to behind a value
+abbrev pub isDigit : ℕ → Bool
+isDigit b = leb 48 b && leb b 57
+
+unfoldable pub allDigits : List ℕ → Bool
+allDigits [] = true
+allDigits (b ∷ bs) = isDigit b && allDigits bs
+
+unfoldable pub valueFrom : ℕ → List ℕ → ℕ
+valueFrom v [] = v
+valueFrom v (b ∷ bs) = valueFrom (v * 10 + (b - 48)) bs
+
+abbrev pub valueOf : List ℕ → ℕ
+valueOf word = valueFrom 0 word
+
+-- a number: decimal digits, of a value that 64 bits hold
+abbrev pub isNumber : List ℕ → Bool
+isNumber word = not (eqb (length word) 0) && allDigits word && leb (valueOf word) 18446744073709551615
+
+abbrev pub numberOf : List ℕ → Number
+numberOf word = cond (isNumber word) (Value (valueOf word)) NoNumber
+
+unfoldable pub allNumbers : List (List ℕ) → Bool
+allNumbers [] = true
+allNumbers (w ∷ ws) = isNumber w && allNumbers ws
+
+unfoldable pub valuesOf : List (List ℕ) → List ℕ
+valuesOf [] = []
+valuesOf (w ∷ ws) = valueOf w ∷ valuesOf ws
+
+-- words as just so many numbers, at most 24, with zeros behind them
+abbrev pub noNumbers : Numbers
+noNumbers = record { good = false; values = replicate 24 0 }
+
+abbrev pub numbersOf : ℕ → List (List ℕ) → Numbers
+numbersOf count ws =
+    cond (leb count 24 && eqb (length ws) count && allNumbers ws) (record { good = true; values = valuesOf ws ++ replicate (24 - count) 0 }) noNumbers

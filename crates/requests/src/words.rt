@@ -1,0 +1,160 @@
+// A line taken apart: words separated by spaces and tabs, and words as numbers.
+ghost use mathlib.Core.Path.{_≡_};
+ghost use mathlib.Core.Bool.{cond};
+ghost use lib.ListN.{drop};
+ghost use Prim.Native.Nat.{_-_};
+ghost use Rattle.requests.specs.Places.{past};
+ghost use Rattle.requests.specs.Words.{isBlank, inWord, words, wordAt, sameWord, isDigit, numberOf, noNumbers, numbersOf};
+
+// A word's place in its line. An empty one stands where no word is left.
+pub struct Word {
+    pub start: usize,
+    pub end: usize,
+}
+
+pub enum Number {
+    Value(u64),
+    NoNumber,
+}
+
+// The numbers at the end of a line, if they are just as many as asked for.
+pub struct Numbers {
+    pub good: bool,
+    pub values: [u64; 24],
+}
+
+const SPACE: u8 = 32;
+
+const TAB: u8 = 9;
+
+pub fn is_blank(byte: u8) -> bool
+    ensures { λ r. ⌜ r ≡ isBlank byte ⌝ }
+{
+    if byte == SPACE {
+        return true;
+    }
+    byte == TAB
+}
+
+// A decimal digit's value; 10 for any other byte.
+fn digit_value(byte: u8) -> u64
+    ensures { λ r. ⌜ r ≡ cond (isDigit byte) (byte - 48) 10 ⌝ }
+{
+    if byte < 48 {
+        return 10;
+    }
+    if 57 < byte {
+        return 10;
+    }
+    (byte - 48) as u64
+}
+
+fn skip_blanks(line: &[u8], from: usize) -> usize
+    ensures { λ r. ⌜ r ≡ past isBlank (now (line .entry)) from ⌝ }
+{
+    let mut i = from;
+    while i < line.len() {
+        if !is_blank(line[i]) {
+            return i;
+        }
+        i += 1;
+    }
+    line.len()
+}
+
+fn word_end(line: &[u8], from: usize) -> usize
+    ensures { λ r. ⌜ r ≡ past inWord (now (line .entry)) from ⌝ }
+{
+    let mut i = from;
+    while i < line.len() {
+        if is_blank(line[i]) {
+            return i;
+        }
+        i += 1;
+    }
+    line.len()
+}
+
+pub fn next_word(line: &[u8], from: usize) -> Word
+    ensures { λ r. ⌜ r ≡ wordAt (now (line .entry)) from ⌝ }
+{
+    let start = skip_blanks(line, from);
+    let end = word_end(line, start);
+    Word { start, end }
+}
+
+pub fn same(word: &[u8], other: &[u8]) -> bool
+    ensures { λ r. ⌜ r ≡ sameWord (now (word .entry)) (now (other .entry)) ⌝ }
+{
+    if word.len() != other.len() {
+        return false;
+    }
+    let mut i = 0;
+    while i < word.len() {
+        if word[i] != other[i] {
+            return false;
+        }
+        i += 1;
+    }
+    true
+}
+
+// A word as a number. More than 64 bits hold is no number.
+pub fn number_of(word: &[u8]) -> Number
+    ensures { λ r. ⌜ r ≡ numberOf (now (word .entry)) ⌝ }
+{
+    if word.len() == 0 {
+        return Number::NoNumber;
+    }
+    let mut value: u64 = 0;
+    let mut i = 0;
+    while i < word.len() {
+        let digit = digit_value(word[i]);
+        if 10 <= digit {
+            return Number::NoNumber;
+        }
+        if (u64::MAX - digit) / 10 < value {
+            return Number::NoNumber;
+        }
+        value = value * 10 + digit;
+        i += 1;
+    }
+    Number::Value(value)
+}
+
+fn no_numbers() -> Numbers
+    ensures { λ r. ⌜ r ≡ noNumbers ⌝ }
+{
+    Numbers {
+        good: false,
+        values: [0u64; 24],
+    }
+}
+
+// The words from a place to the line's end, as numbers; not good if they are more or fewer, or one is no number.
+pub fn numbers_from(line: &[u8], from: usize, count: usize) -> Numbers
+    ensures { λ r. ⌜ r ≡ numbersOf count (words (drop from (now (line .entry)))) ⌝ }
+{
+    if 24 < count {
+        return no_numbers();
+    }
+    let mut values = [0u64; 24];
+    let mut at = from;
+    let mut i = 0;
+    while i < count {
+        let word = next_word(line, at);
+        let start = word.start;
+        let end = word.end;
+        let Number::Value(value) = number_of(&line[start..end]) else {
+            return no_numbers();
+        };
+        values[i] = value;
+        at = end;
+        i += 1;
+    }
+    let rest = next_word(line, at);
+    if rest.start < rest.end {
+        return no_numbers();
+    }
+    Numbers { good: true, values }
+}
