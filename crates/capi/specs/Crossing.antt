@@ -6,10 +6,10 @@ use Prim.Native.Nat.{ℕ}
 use Rattle.history.specs.Answers as answers
 use Rattle.session.specs.declared.state.Session.{Session}
 use Rattle.listing.specs.Run.{ListsPart}
-use Rattle.capi.specs.declared.crossing.Status.{Status}
-use Rattle.capi.specs.declared.crossing.Listed.{Listed}
+use Rattle.capi.specs.declared.crossing.StatusNumbers.{StatusNumbers}
+use Rattle.capi.specs.declared.crossing.ListedPart.{ListedPart}
 
-abbrev pub statusGiven : Status → answers.Status
+abbrev pub statusGiven : StatusNumbers → answers.Status
 statusGiven r =
     record {
       number = r .number;
@@ -22,7 +22,7 @@ statusGiven r =
     }
 
 -- what a listing of a part leaves, by the listing's own statement; `ended` is 1 where it has ended and 0 where not
-pub record Lists (part : List ℕ) (last : Bool) (s : Session) (before after : List ℕ) (r : Listed) : Type 0 where
+pub record ListsForC (part : List ℕ) (last : Bool) (s : Session) (before after : List ℕ) (r : ListedPart) : Type 0 where
   pub stopped : Bool
   pub ended : r .ended ≡ cond stopped 1 0
   pub lists : ListsPart part last s before after (record { session = r .session; written = r .written; stopped = stopped })

@@ -13,10 +13,10 @@ ghost use Rattle.statements.specs.Rep.{Rep};
 ghost use Rattle.statements.specs.Statements.{Called, Told, RestoreTold};
 ghost use Rattle.judging.specs.Judged.{replyIn};
 ghost use Rattle.checker.specs.Replies.{stretchTold};
-ghost use Rattle.capi.specs.Crossing.{statusGiven, Lists};
+ghost use Rattle.capi.specs.Crossing.{statusGiven, ListsForC};
 use crate::crossing::Gaps;
-use crate::crossing::Listed;
-use crate::crossing::Status;
+use crate::crossing::ListedPart;
+use crate::crossing::StatusNumbers;
 use crate::crossing::one_if;
 use crate::crossing::status_numbers;
 use checker::answers::Offered;
@@ -88,7 +88,7 @@ pub extern "C" fn rossinhiu_take_back(session: Session, journal: &mut [u8]) -> T
 }
 
 #[no_mangle]
-pub extern "C" fn rossinhiu_status(session: Session) -> Status
+pub extern "C" fn rossinhiu_status(session: Session) -> StatusNumbers
     ensures { λ r. ⌜ Told (statusIn session) (λ h. statusOn h) session (statusGiven r) ⌝ }
 {
     status_numbers(status(session))
@@ -116,12 +116,12 @@ pub extern "C" fn rossinhiu_list_part(
     part: &[u8],
     last: u64,
     out: &mut [u8],
-) -> Listed
-    ensures { λ r. ⌜ Lists (now (part .entry)) (not (eqb last 0)) session (now (out .entry)) (now (out .exit)) r ⌝ }
+) -> ListedPart
+    ensures { λ r. ⌜ ListsForC (now (part .entry)) (not (eqb last 0)) session (now (out .entry)) (now (out .exit)) r ⌝ }
 {
     let done = list_part(session, part, last != 0, out);
     let next = done.session;
-    Listed {
+    ListedPart {
         session: next,
         written: done.written,
         ended: one_if(done.stopped),

@@ -15,7 +15,7 @@ pub struct Gaps {
 }
 
 #[repr(C)]
-pub struct Status {
+pub struct StatusNumbers {
     pub number: u64,
     pub client: u32,
     pub opening: u32,
@@ -27,17 +27,17 @@ pub struct Status {
 
 // `ended` is 1 if the bad line or the end line ended the listing, else 0.
 #[repr(C)]
-pub struct Listed {
+pub struct ListedPart {
     pub session: Session,
     pub written: usize,
     pub ended: u64,
 }
 
-pub fn status_numbers(answer: StatusAnswer) -> Status
+pub fn status_numbers(answer: StatusAnswer) -> StatusNumbers
     ensures { λ r. ⌜ statusGiven r ≡ statusReplied answer ⌝ }
 {
     match answer {
-        StatusAnswer::Known(s) => Status {
+        StatusAnswer::Known(s) => StatusNumbers {
             number: Answer::ACCEPTED,
             client: s.client,
             opening: s.opening,
@@ -46,7 +46,7 @@ pub fn status_numbers(answer: StatusAnswer) -> Status
             last: s.last.0,
             records: s.records,
         },
-        StatusAnswer::NoSession => Status {
+        StatusAnswer::NoSession => StatusNumbers {
             number: Answer::NO_SESSION,
             client: 0,
             opening: 0,

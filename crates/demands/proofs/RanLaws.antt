@@ -10,10 +10,10 @@ use lib.Seq.{drop-drop, take-append-le, drop-append-le, take-take}
 use borrow.Author.Tests.{leb-true, leb-false, le-leb}
 use Rattle.history.specs.Records.{History, Current, closed, session, standing}
 use Rattle.history.specs.Answers.{maxRecords, roomOf, Verdict, refused, accepted, replyOf, nextOf, openOn, offerOn, earliestOn, takeBackOn, statusOn}
-use Rattle.history.specs.Struck.{Call, open-session, offer, take-back, Answered, unrefused, recordsOf, recordsIn, verdict, Told, nothing-yet, then}
+use Rattle.history.specs.Struck.{Call, open-session, offer, take-back, Answered, unrefused, recordsOf, recordsIn, verdict, LeadsTo, nothing-yet, then}
 use Rattle.history.proofs.AnswerLaws.{Passed, call-passed}
 use Rattle.history.proofs.StandingLaws.{Below, number-below}
-use Rattle.history.proofs.CurrentLaws.{told-kept, told-current}
+use Rattle.history.proofs.CurrentLaws.{leads-kept, leads-current}
 use Rattle.session.specs.declared.state.Session.{Session}
 use Rattle.session.specs.State.{freshState}
 use Rattle.journal.specs.Bytes.{bytesOf}
@@ -72,10 +72,10 @@ wound-step : (h : History) (v : Verdict) (n : ℕ) → n < length (nextOf h v) �
 wound-step h (refused r) n l = (omega arith, refl)
 wound-step h (accepted r e) n l = let less : n ≤ length h = omega arith in (less, older-less e h n less)
 
-told-right-after : {ps : List Answered} {h : History} → Told ps h → (n : ℕ) → n ≤ length h → Told (rightAfter n ps) (older n h)
+leads-right-after : {ps : List Answered} {h : History} → LeadsTo ps h → (n : ℕ) → n ≤ length h → LeadsTo (rightAfter n ps) (older n h)
 unfolding rightAfter
-told-right-after nothing-yet n l = let none : n ≡ 0 = omega arith in rw none nothing-yet
-told-right-after (then {ps = ps} {h = h} before room c) n l = go (leb (recordsIn (a ∷ ps)) n) refl (λ less. told-right-after before n less)
+leads-right-after nothing-yet n l = let none : n ≡ 0 = omega arith in rw none nothing-yet
+leads-right-after (then {ps = ps} {h = h} before room c) n l = go (leb (recordsIn (a ∷ ps)) n) refl (λ less. leads-right-after before n less)
   where
     a : Answered
     a = record { call = c; number = replyOf (verdict room h c) .number }
@@ -84,15 +84,15 @@ told-right-after (then {ps = ps} {h = h} before room c) n l = go (leb (recordsIn
     v = verdict room h c
 
     count : length (nextOf h v) ≡ recordsIn (a ∷ ps)
-    count = told-kept (then before room c) .count
+    count = leads-kept (then before room c) .count
 
-    go : (t : Bool) → leb (recordsIn (a ∷ ps)) n ≡ t → (n ≤ length h → Told (rightAfter n ps) (older n h)) → Told (cond t (a ∷ ps) (rightAfter n ps)) (older n (nextOf h v))
+    go : (t : Bool) → leb (recordsIn (a ∷ ps)) n ≡ t → (n ≤ length h → LeadsTo (rightAfter n ps) (older n h)) → LeadsTo (cond t (a ∷ ps) (rightAfter n ps)) (older n (nextOf h v))
     go true e on =
         let all : n ≡ length (nextOf h v) = omega (arith, leb-true (recordsIn (a ∷ ps)) n e, count, l) in
-        subst (Told (a ∷ ps)) (sym (older-all (nextOf h v) n all)) (then before room c)
+        subst (LeadsTo (a ∷ ps)) (sym (older-all (nextOf h v) n all)) (then before room c)
     go false e on =
         let w = wound-step h v n (omega (arith, leb-false (recordsIn (a ∷ ps)) n e, count)) in
-        subst (Told (rightAfter n ps)) (sym (w .1)) (on (w .0))
+        subst (LeadsTo (rightAfter n ps)) (sym (w .1)) (on (w .0))
 
 -- a restore of the first k bytes gives the first k / 64 records
 module _ (room : ℕ) (h : History) (s next : Session) (first j after : List ℕ) (k : ℕ) (is : Holding room h s first j) (l : k ≤ 64 * length h)
@@ -128,11 +128,11 @@ module _ (room : ℕ) (h : History) (s next : Session) (first j after : List ℕ
 -- what a run has come to
 pub record Came (room : ℕ) (es : List Event) (s : Session) (first j : List ℕ) : Type 0 where
   pub records : History
-  pub told : Told (lasting es) records
+  pub told : LeadsTo (lasting es) records
   pub holding : Holding room records s first j
 
-noted-told : (m : Move) (room : ℕ) (ps : List Answered) (h : History) (j : List ℕ) (a : Answer) → Told ps h → a ≡ answerOn room h m j → Told (noted m (numberIn a) ps) (nextOf h (verdictOn room h m))
-noted-told (calls c) room ps h j a told is = subst (λ (n : ℕ). Told (record { call = c; number = n } ∷ ps) (nextOf h (verdict room h c))) (sym (ap numberIn is)) (then told room c)
+noted-told : (m : Move) (room : ℕ) (ps : List Answered) (h : History) (j : List ℕ) (a : Answer) → LeadsTo ps h → a ≡ answerOn room h m j → LeadsTo (noted m (numberIn a) ps) (nextOf h (verdictOn room h m))
+noted-told (calls c) room ps h j a told is = subst (λ (n : ℕ). LeadsTo (record { call = c; number = n } ∷ ps) (nextOf h (verdict room h c))) (sym (ap numberIn is)) (then told room c)
 noted-told (asks-earliest kind rank bank) room ps h j a told is = told
 noted-told asks-status room ps h j a told is = told
 noted-told asks-stretch room ps h j a told is = told
@@ -153,14 +153,14 @@ came {room} (fails {s = s} {next = next} {first = first} {j = j} before k l afte
     let low : k ≤ 64 * length (w .records) = rw (w .holding .rep .records) at l in
     record {
       records = older (k / 64) (w .records);
-      told = told-right-after (w .told) (k / 64) (omega (arith, low));
+      told = leads-right-after (w .told) (k / 64) (omega (arith, low));
       holding = cut-holds room (w .records) s next first j after k (w .holding) low same number at told room-is;
     }
 
 -- the answer on the history is document 01's over the calls and answers
-by-calls : (room : ℕ) (ps : List Answered) (h : History) → Told ps h → (m : Move) (j : List ℕ) → answerOn room h m j ≡ answerBy room ps m j
+by-calls : (room : ℕ) (ps : List Answered) (h : History) → LeadsTo ps h → (m : Move) (j : List ℕ) → answerOn room h m j ≡ answerBy room ps m j
 unfolding openOn offerOn earliestOn takeBackOn statusOn stretchOf
-by-calls room ps h told m j = rw (← told-current told, ← told-kept told .count) (go m)
+by-calls room ps h told m j = rw (← leads-current told, ← leads-kept told .count) (go m)
   where
     go : (m : Move) → answerOn room h m j ≡ answerAt room (length h) (standing h) m j
     go (calls (open-session o)) = refl
@@ -184,7 +184,7 @@ pub journal-begins : {room : ℕ} {es : List Event} {s : Session} {first j : Lis
     → Run room es s first j → j ≡ written (recordsOf (unrefused (lasting es))) ++ drop (64 * recordsIn (lasting es)) first
 journal-begins {es = es} {first = first} {j = j} run =
     let w = came run in
-    let k = told-kept (w .told) in
+    let k = leads-kept (w .told) in
     w .holding .begins ∙ ap (λ (n : ℕ). written (w .records) ++ drop (64 * n) first) (k .count) ∙ ap (λ (h : History). written h ++ drop (64 * recordsIn (lasting es)) first) (k .records)
 
 -- THE SAME ANSWERS from two states and journals that hold one history. The stretch lies inside the history's bytes
@@ -311,7 +311,7 @@ pub same-calls : {room : ℕ} {es es′ : List Event} {s s′ : Session} {first 
 same-calls {room} {es} {es′} {s} {s′} {first} {first′} {j} {j′} run run′ same =
     let w = came run in
     let w′ = came run′ in
-    let one : w′ .records ≡ w .records = told-kept (w′ .told) .records ∙ ap recordsOf (sym same) ∙ sym (told-kept (w .told) .records) in
+    let one : w′ .records ≡ w .records = leads-kept (w′ .told) .records ∙ ap recordsOf (sym same) ∙ sym (leads-kept (w .told) .records) in
     goes-on room (w .records) s s′ first first′ j j′ (w .holding) (subst (λ (h : History). Holding room h s′ first′ j′) one (w′ .holding))
 
 none-left : (ps : List Answered) → unrefused (rightAfter 0 ps) ≡ []

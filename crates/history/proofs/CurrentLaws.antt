@@ -7,7 +7,7 @@ use Rattle.timing.specs.Earliest.{Settings, Stamped, Standing}
 use Rattle.timing.proofs.KindLaws.{kind-of-code}
 use Rattle.history.specs.Records.{opening, command, takeBack, History, Current, closed, session, standing, deepest}
 use Rattle.history.specs.Answers.{Verdict, replyOf, nextOf}
-use Rattle.history.specs.Struck.{Call, open-session, Answered, unrefused, openingNumber, depthAfter, recordsOf, survivorsIn, openedIn, current, recordsIn, verdict, Told, nothing-yet, then, offerOf, rest}
+use Rattle.history.specs.Struck.{Call, open-session, Answered, unrefused, openingNumber, depthAfter, recordsOf, survivorsIn, openedIn, current, recordsIn, verdict, LeadsTo, nothing-yet, then, offerOf, rest}
 use Rattle.history.proofs.AnswerLaws.{Shape, refuses, opens, stamps, withdraws, shape}
 use Rattle.history.proofs.StruckLaws.{struck-stands, unrefused-not, unrefused-yes}
 
@@ -55,10 +55,10 @@ module _ (ps : List Answered) (h : History) (k : Kept ps h) where
         records = rw more (ap (λ (x : History). takeBack (st .number) ∷ x) (k .records) ∙ ap (λ (n : ℕ). takeBack n ∷ recordsOf cs) (w .0));
       }
 
-pub told-kept : {ps : List Answered} {h : History} → Told ps h → Kept ps h
+pub leads-kept : {ps : List Answered} {h : History} → LeadsTo ps h → Kept ps h
 unfolding standing unrefused recordsOf
-told-kept nothing-yet = record { count = refl; counts = tt; records = refl }
-told-kept (then {ps = ps} {h = h} before room c) = keep ps h (told-kept before) c (verdict room h c) (shape room h c)
+leads-kept nothing-yet = record { count = refl; counts = tt; records = refl }
+leads-kept (then {ps = ps} {h = h} before room c) = keep ps h (leads-kept before) c (verdict room h c) (shape room h c)
 
 -- what is left of the calls, read back
 survivors-back : (xs : List Stamped) (s : Settings) → survivorsIn (map offerOf xs ++ open-session s ∷ []) ≡ xs
@@ -73,9 +73,9 @@ opened-back [] ys s n d = refl
 opened-back (x ∷ xs) ys s n d = opened-back xs ys s n d
 
 -- from the fresh state, for any calls with any rooms: what stands of the records is what is left of the calls
-pub told-current : {ps : List Answered} {h : History} → Told ps h → standing h ≡ current ps
+pub leads-current : {ps : List Answered} {h : History} → LeadsTo ps h → standing h ≡ current ps
 unfolding current openedIn
-told-current {ps} {h} told = rw (struck-stands told) (go (standing h) (told-kept told .counts))
+leads-current {ps} {h} told = rw (struck-stands told) (go (standing h) (leads-kept told .counts))
   where
     go : (k : Current) → Counts k (unrefused ps) → k ≡ openedIn (rest k) (openingNumber (unrefused ps)) (depthAfter (unrefused ps)) (survivorsIn (rest k))
     go closed w = refl

@@ -16,7 +16,7 @@ use Rattle.history.specs.Records.{opening, History, Current, closed, ses
 use Rattle.timing.proofs.KindLaws.{code-of-kind}
 use Rattle.history.proofs.AnswerLaws.{Shape, refuses, opens, stamps, withdraws, shape}
 use Rattle.history.specs.Answers.{Verdict, replyOf, nextOf}
-use Rattle.history.specs.Struck.{Call, open-session, offer, take-back, Answered, unrefused, untaken, sinceOpening, struck, verdict, Told, nothing-yet, then, offerOf, rest}
+use Rattle.history.specs.Struck.{Call, open-session, offer, take-back, Answered, unrefused, untaken, sinceOpening, struck, verdict, LeadsTo, nothing-yet, then, offerOf, rest}
 
 -- the depth, and the calls of what stands with the n latest commands left out
 abbrev depthOf : Current → ℕ
@@ -77,15 +77,15 @@ module _ (ps : List Answered) (h : History) (left : Left ps h) where
       rw (unrefused-yes c (r .number) ps e)
       (subst (λ (x : Current). n ≤ depthOf (popped x) → sinceOpening (untaken n (take-back ∷ unrefused ps)) ≡ behind n (popped x)) (sym s) (withdrawn st s n deep) l)
 
-told-left : {ps : List Answered} {h : History} → Told ps h → Left ps h
+leads-left : {ps : List Answered} {h : History} → LeadsTo ps h → Left ps h
 unfolding standing unrefused untaken sinceOpening
-told-left nothing-yet = λ n l. refl
-told-left (then {ps = ps} {h = h} before room c) = step ps h (told-left before) c (verdict room h c) (shape room h c)
+leads-left nothing-yet = λ n l. refl
+leads-left (then {ps = ps} {h = h} before room c) = step ps h (leads-left before) c (verdict room h c) (shape room h c)
 
 -- from the fresh state, for any calls with any rooms: struck, the calls and answers leave what stands of the accepted records
-pub struck-stands : {ps : List Answered} {h : History} → Told ps h → struck ps ≡ rest (standing h)
+pub struck-stands : {ps : List Answered} {h : History} → LeadsTo ps h → struck ps ≡ rest (standing h)
 unfolding struck
-struck-stands {ps} {h} told = told-left told 0 (omega arith) ∙ go (standing h)
+struck-stands {ps} {h} told = leads-left told 0 (omega arith) ∙ go (standing h)
   where
     go : (s : Current) → behind 0 s ≡ rest s
     go closed = refl
