@@ -54,7 +54,7 @@ fn play_restored(path: &[u8], file: i32, journal: &mut [u8], bytes: usize) {
         return;
     }
     if number != 0 {
-        explain_bad(path, bytes, at);
+        explain_bad(path, &journal[..bytes], at);
         return;
     }
     let session = done.session;

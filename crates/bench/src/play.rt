@@ -11,6 +11,8 @@ use crate::gather::say_part;
 use console::lines::keep;
 use console::lines::line_end;
 use console::respond::respond;
+use input::Got;
+use input::read_some;
 use libc::STDIN_FILENO;
 use requests::in_file::in_file;
 use requests::requests::Parsed;
@@ -154,7 +156,7 @@ fn flushed(console: Console, out: &[u8]) -> Console {
     }
 }
 
-// At the end of the input a line without newline counts.
+// What stands behind the last newline was cut short: it is answered, and not played.
 fn last_turn(
     console: Console,
     journal: &mut [u8],
@@ -178,33 +180,48 @@ fn last_turn(
     }
 }
 
-// One read of what is there, behind the line under way: the end of what was read, or 0 if nothing came.
-fn read_behind(input: &mut [u8], kept: usize) -> usize
-    ensures { λ r. ⌜ r ≤ length (now (input .exit)) ⌝ }
-{
-    if input.len() <= kept {
-        return 0;
+// A failed read is not the end: the line under way may go on otherwise than it stands here, and has no answer.
+fn broken_off(console: Console) -> Turn {
+    os::fail(
+        b"bench: standard input can't be read, so it ends here. Send the trace again from the first line that has no answer",
+    );
+    Turn {
+        console,
+        kept: 0,
+        goes_on: false,
     }
-    let got = libc::read(STDIN_FILENO, &mut input[kept..]);
-    let n = io::count(got, &input[kept..]);
-    if n == 0 {
-        return 0;
-    }
-    kept + n
 }
 
-// All answers are written before the next read, which could wait.
-fn read_on(
+// One read of what is there, behind the line under way: the end of what was read, or 0 if nothing came.
+fn read_behind(input: &mut [u8], kept: usize) -> Got
+    ensures { λ r. ⌜ r .count ≤ length (now (input .exit)) ⌝ }
+{
+    if input.len() <= kept {
+        return Got {
+            count: 0,
+            failed: false,
+        };
+    }
+    let got = read_some(STDIN_FILENO, &mut input[kept..]);
+    if got.count == 0 {
+        return got;
+    }
+    Got {
+        count: kept + got.count,
+        failed: false,
+    }
+}
+
+// The whole lines up to the end of what was read. All answers are written before the next read, which could wait.
+fn play_read(
     console: Console,
     journal: &mut [u8],
     out: &mut [u8],
     input: &mut [u8],
-    kept: usize,
-) -> Turn {
-    let end = read_behind(input, kept);
-    if end == 0 {
-        return last_turn(console, journal, out, input, kept);
-    }
+    end: usize,
+) -> Turn
+    requires { ⌜ end ≤ length (now input) ⌝ }
+{
     let played = play_lines(console, journal, out, &input[..end]);
     let used = played.used;
     let after = flushed(played.console, out);
@@ -214,6 +231,23 @@ fn read_on(
         kept: left,
         goes_on: true,
     }
+}
+
+fn read_on(
+    console: Console,
+    journal: &mut [u8],
+    out: &mut [u8],
+    input: &mut [u8],
+    kept: usize,
+) -> Turn {
+    let got = read_behind(input, kept);
+    if got.failed {
+        return broken_off(console);
+    }
+    if got.count == 0 {
+        return last_turn(console, journal, out, input, kept);
+    }
+    play_read(console, journal, out, input, got.count)
 }
 
 pub fn run(start: Console, journal: &mut [u8]) {

@@ -23,9 +23,17 @@ ask-by-number : asked (text "ask 257 1 0\r") true ≡ withoutGaps (Ask 257 1 0)
 unfolding meaning
 ask-by-number = refl
 
-return-in-a-word : asked (text "back\r") false ≡ withoutGaps Malformed
+cut-short : asked (text "back") false ≡ withoutGaps Malformed
 unfolding meaning
-return-in-a-word = refl
+cut-short = refl
+
+comment-cut-short : asked (text "# back") false ≡ withoutGaps Malformed
+unfolding meaning
+comment-cut-short = refl
+
+nothing-behind-the-last-newline : asked [] false ≡ withoutGaps Nothing
+unfolding meaning
+nothing-behind-the-last-newline = refl
 
 comment : asked (text " #back") true ≡ withoutGaps Nothing
 unfolding meaning

@@ -8,10 +8,10 @@ use native.Mathlib.Omega.{arith}
 use lib.Dec.{leb}
 use lib.ListN.{length, take, drop, getD, set, length-drop, length-map, List·getD-map, drop-of-length-le}
 use lib.Seq.{drop-cons, take-suc, take-suc-set, take-all, getD-drop}
-use borrow.Author.Tests.{leb-true, le-leb, lt-leb, eq-eqb, ne-eqb, le-ltb}
+use borrow.Author.Tests.{leb-true, le-leb, lt-leb, eq-eqb, ne-eqb, le-ltb, lt-ltb}
 use Rattle.text.specs.Text.{text}
 use Rattle.timing.specs.declared.clocks.DramCycles.{DramCycles}
-use Rattle.requests.specs.declared.requests.Request.the-variants.{Nothing}
+use Rattle.requests.specs.declared.requests.Request.the-variants.{Nothing, Malformed}
 use Rattle.requests.specs.Words.{before, frontWord, laterWords, words, sameWord, numbersOf}
 use Rattle.requests.specs.Requests.{namedKind, kindNumber, kindedOf, requestOf, gap, withoutGaps, allAtMost, openForm, askedBy, asked}
 
@@ -78,18 +78,23 @@ module _ (verb : List ℕ) (ws : List (List ℕ)) where
     pub other-is : sameWord verb (text "open") ≡ false → askedBy (verb ∷ ws) ≡ withoutGaps (requestOf verb ws)
     other-is e = rw (ne-eqb (getD verb 0 0) 35 plain, e)
 
--- a line of at most 4,096 bytes, and its carriage return
+-- a line by its bytes: none, cut short, too long, and of at most 4,096 with its carriage return
 pub asked-empty : (line : List ℕ) (ended : Bool) → length line ≡ 0 → asked line ended ≡ withoutGaps Nothing
 unfolding asked frontWord laterWords
 asked-empty [] true e = refl
 asked-empty [] false e = refl
 asked-empty (b ∷ bs) ended e = absurd (omega arith)
 
-module _ (line : List ℕ) (fits : length line ≤ 4096) where
-  pub asked-unended : asked line false ≡ askedBy (words line)
-  unfolding asked
-  asked-unended = rw (le-ltb 4096 (length line) fits)
+pub asked-cut : (line : List ℕ) → (length line ≡ 0 → ⊥) → asked line false ≡ withoutGaps Malformed
+unfolding asked
+asked-cut [] n = absurd (n refl)
+asked-cut (b ∷ bs) n = refl
 
+pub asked-long : (line : List ℕ) → 4096 < length line → asked line true ≡ withoutGaps Malformed
+unfolding asked
+asked-long line h = rw (lt-ltb 4096 (length line) h)
+
+module _ (line : List ℕ) (fits : length line ≤ 4096) where
   pub asked-return : getD line (length line - 1) 0 ≡ 13 → asked line true ≡ askedBy (words (take (length line - 1) line))
   unfolding asked
   asked-return e = rw (le-ltb 4096 (length line) fits, eq-eqb (getD line (length line - 1) 0) 13 e)

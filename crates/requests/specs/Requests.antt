@@ -114,9 +114,18 @@ askedBy (verb ∷ ws) =
     cond (eqb (getD verb 0 0) 35) (withoutGaps Nothing) (cond (sameWord verb (text "open")) (openForm (numbersOf 24 ws)) (withoutGaps (requestOf verb ws)))
 
 -- a carriage return right before a newline is ignored
-abbrev pub withoutReturn : Bool → List ℕ → List ℕ
-withoutReturn ended line = let last = length line - 1 in cond (ended && eqb (getD line last 0) 13) (take last line) line
+abbrev pub withoutReturn : List ℕ → List ℕ
+withoutReturn line = let last = length line - 1 in cond (eqb (getD line last 0) 13) (take last line) line
+
+-- a line that a newline ended
+abbrev pub whole : List ℕ → Parsed
+whole line = cond (ltb 4096 (length line)) (withoutGaps Malformed) (askedBy (words (withoutReturn line)))
+
+-- what stands behind the last newline was cut short, whatever it says
+abbrev pub cutShort : List ℕ → Parsed
+cutShort [] = withoutGaps Nothing
+cutShort (b ∷ bs) = withoutGaps Malformed
 
 -- A LINE, and whether a newline ended it
 unfoldable pub asked : List ℕ → Bool → Parsed
-asked line ended = cond (ltb 4096 (length line)) (withoutGaps Malformed) (askedBy (words (withoutReturn ended line)))
+asked line ended = cond ended (whole line) (cutShort line)

@@ -295,18 +295,18 @@ fn parse(line: &[u8]) -> Parsed
     without_gaps(request_of(&line[start..end], line, end))
 }
 
-// A line as it came. A carriage return counts for its length, and is ignored right before a newline.
+// A line as it came. What no newline ended was cut short. A carriage return counts for a line's length, and is ignored at its end.
 pub fn parse_line(line: &[u8], ended: bool) -> Parsed
     ensures { λ r. ⌜ r ≡ asked (now (line .entry)) ended ⌝ }
 {
-    if MAX_LINE < line.len() {
-        return without_gaps(Request::Malformed);
-    }
     if line.len() == 0 {
         return without_gaps(Request::Nothing);
     }
     if !ended {
-        return parse(line);
+        return without_gaps(Request::Malformed);
+    }
+    if MAX_LINE < line.len() {
+        return without_gaps(Request::Malformed);
     }
     let last = line.len() - 1;
     if line[last] == RETURN {

@@ -28,6 +28,12 @@ same-length c = search needs
 returns-2 : tie.Need-returns-2
 returns-2 c = search needs
 
+slice-reshare-prefix-explain-bad : tie.Need-slice-reshare-prefix-explain-bad
+slice-reshare-prefix-explain-bad c = search needs
+
+slice-aggregate-explain-bad : tie.Need-slice-aggregate-explain-bad
+slice-aggregate-explain-bad c = let a = c .before .before .before .before .before .before .before .before .before .before .args in front-size (a .bytes) (a .journal .now) (c .before .before .before .before .before .before .before .if1 .left)
+
 explain-bad-requires : tie.Need-explain-bad-requires
 explain-bad-requires c κs = search needs
 
@@ -61,6 +67,8 @@ play-restored-spec =
     is-said-requires
     same-length
     returns-2
+    slice-reshare-prefix-explain-bad
+    slice-aggregate-explain-bad
     explain-bad-requires
     same-length-2
     returns-3

@@ -30,11 +30,17 @@ slice-aggregate-read-full c = search needs
 read-full-requires : tie.Need-read-full-requires Inv-loop μ-loop
 read-full-requires c κs = search needs
 
+complain-requires : tie.Need-complain-requires Inv-loop μ-loop
+complain-requires c κs = search needs
+
 array-share-prefix-input : tie.Need-array-share-prefix-input Inv-loop μ-loop
 array-share-prefix-input c = search needs
 
 slice-aggregate-list-part : tie.Need-slice-aggregate-list-part Inv-loop μ-loop
 slice-aggregate-list-part c = search needs
+
+is-last-requires : tie.Need-is-last-requires Inv-loop μ-loop
+is-last-requires c κs = search needs
 
 slice-aggregate-list-part-2 : tie.Need-slice-aggregate-list-part-2 Inv-loop μ-loop
 slice-aggregate-list-part-2 c = search needs
@@ -45,11 +51,11 @@ list-part-requires c κs = search needs
 array-share-prefix-out : tie.Need-array-share-prefix-out Inv-loop μ-loop
 array-share-prefix-out c = search needs
 
-slice-aggregate-write-all : tie.Need-slice-aggregate-write-all Inv-loop μ-loop
-slice-aggregate-write-all c = sym (length-take-le _ _ (c .before .before .list-part .ensures .room))
+slice-aggregate-is-written : tie.Need-slice-aggregate-is-written Inv-loop μ-loop
+slice-aggregate-is-written c = sym (length-take-le _ _ (c .before .before .list-part .ensures .room))
 
-write-all-requires : tie.Need-write-all-requires Inv-loop μ-loop
-write-all-requires c κs = search needs
+is-written-requires : tie.Need-is-written-requires Inv-loop μ-loop
+is-written-requires c κs = search needs
 
 returns : tie.Need-returns Inv-loop μ-loop
 returns c = search needs
@@ -81,13 +87,15 @@ list-all-spec =
     loop-holds
     slice-aggregate-read-full
     read-full-requires
+    complain-requires
     array-share-prefix-input
     slice-aggregate-list-part
+    is-last-requires
     slice-aggregate-list-part-2
     list-part-requires
     array-share-prefix-out
-    slice-aggregate-write-all
-    write-all-requires
+    slice-aggregate-is-written
+    is-written-requires
     returns
     returns-2
     sub-turns
