@@ -15,12 +15,14 @@ use play::started;
 use requests::words::same;
 use restoring::restore::restore;
 use session::state::Session;
+use stack::is_deep;
 use text::lines::Line;
 
 mod file;
 mod gather;
 mod help;
 mod play;
+mod stack;
 
 // The journal. Without a file it is gone at the end.
 fn memory() -> [u8; 4194304]
@@ -85,11 +87,9 @@ fn play_named(name: &[u8], journal: &mut [u8]) {
     play_file(name, journal);
 }
 
-fn main() {
-    let mut journal = memory();
-    let words = os::arg_count();
+fn play_words(words: usize, journal: &mut [u8]) {
     if words < 2 {
-        play_memory(&mut journal);
+        play_memory(journal);
         return;
     }
     let mut name = io::buffer();
@@ -98,5 +98,21 @@ fn main() {
         help::expected();
         return;
     }
-    play_named(&name[..len], &mut journal);
+    play_named(&name[..len], journal);
+}
+
+// The journal stands on this function's own stack, so that main can ask for the limit first: a function that calls itself is never
+// made a part of its caller. No command has so many words.
+fn work(words: usize) {
+    let mut journal = memory();
+    play_words(words, &mut journal);
+    if 4611686018427387904 < words {
+        work(words - 1);
+    }
+}
+
+fn main() {
+    if is_deep() {
+        work(os::arg_count());
+    }
 }

@@ -1,8 +1,8 @@
 //! Standard input to standard output: the console by the model. With an
 //! argument the journal is kept in that file.
 
-use rossinhiu_host::console::Console;
-use rossinhiu_host::file::{FileConsole, Start};
+use rossinhiu_model::console::Console;
+use rossinhiu_model::file::{FileConsole, Start};
 use std::fs::{File, OpenOptions};
 use std::io::{self, BufRead, Read, Write};
 use std::os::unix::fs::FileExt;

@@ -90,7 +90,7 @@ impl Console {
         out
     }
 
-    /// The end of standard input: a last line without a newline counts.
+    /// The end of standard input: what stands behind the last newline was cut short, and is not played.
     pub fn finish(&mut self) -> Vec<u8> {
         let mut out = Vec::new();
         let line = std::mem::take(&mut self.begun);
@@ -109,13 +109,13 @@ impl Console {
 
     /// One line without its newline; `newline` says whether it had one.
     pub fn line(&mut self, line: &[u8], newline: bool) -> Option<String> {
-        if line.len() > LONGEST_LINE {
+        if line.is_empty() && !newline {
+            return None;
+        }
+        if !newline || line.len() > LONGEST_LINE {
             return Some("?".to_string());
         }
-        let text = match line {
-            [front @ .., b'\r'] if newline => front,
-            _ => line,
-        };
+        let text = line.strip_suffix(b"\r").unwrap_or(line);
         let mut words: Vec<&[u8]> = text.split(|b| *b == b' ' || *b == b'\t').collect();
         words.retain(|word| !word.is_empty());
         let first = words.first()?;

@@ -1,14 +1,12 @@
 //! What a person at the laboratory meets: the examples, the recipe for traces
 //! of power tools, the help pages, wrong arguments, a long trace.
 
-mod common;
-
-use common::*;
-use rossinhiu_host::console::Console;
-use rossinhiu_host::file::FileConsole;
-use rossinhiu_host::generate::SETTINGS_A;
-use rossinhiu_host::listing::list;
-use rossinhiu_host::model::NAMES;
+use rossinhiu_model::harness::*;
+use rossinhiu_model::console::Console;
+use rossinhiu_model::file::FileConsole;
+use rossinhiu_model::generate::SETTINGS_A;
+use rossinhiu_model::listing::list;
+use rossinhiu_model::model::NAMES;
 use std::collections::BTreeSet;
 use std::ffi::OsStr;
 use std::fs;
@@ -18,9 +16,7 @@ use std::path::{Path, PathBuf};
 use std::time::{Duration, Instant};
 
 fn example(name: &str) -> PathBuf {
-    Path::new(env!("CARGO_MANIFEST_DIR"))
-        .join("../examples")
-        .join(name)
+    top().join("examples").join(name)
 }
 
 fn bytes(name: &str) -> Vec<u8> {
@@ -115,7 +111,7 @@ fn the_guide_does_what_it_says() {
     let folder = Folder::new();
     let path = folder.at("day.journal");
     let played = run(&mut command(&bench(), &[&path]), &bytes("day-1.trace"));
-    let guide = Path::new(env!("CARGO_MANIFEST_DIR")).join("../docs/GUIDE.md");
+    let guide = top().join("docs/GUIDE.md");
     let guide = fs::read_to_string(guide).unwrap();
     let typed = |start: &str| -> String {
         let found = guide

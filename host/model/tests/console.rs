@@ -4,12 +4,10 @@
 //! looked for beside this project, where the product's build puts them. Other
 //! seeds run on request: ROSSINHIU_SEED is the first, ROSSINHIU_SCRIPTS how many.
 
-mod common;
-
-use common::{bench, list_program, turn, LIMIT};
-use rossinhiu_host::console::Console;
-use rossinhiu_host::generate::{script, spoil, Mood, Rng, Script, BADS, MOODS};
-use rossinhiu_host::listing::list;
+use rossinhiu_model::harness::{bench, list_program, turn, LIMIT};
+use rossinhiu_model::console::Console;
+use rossinhiu_model::generate::{script, spoil, Mood, Rng, Script, BADS, MOODS};
+use rossinhiu_model::listing::list;
 use std::io::{BufRead, BufReader, Read, Write};
 use std::path::Path;
 use std::process::{Child, Command, Stdio};

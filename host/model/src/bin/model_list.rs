@@ -1,6 +1,6 @@
 //! Standard input to standard output: the listing by the model.
 
-use rossinhiu_host::listing::list;
+use rossinhiu_model::listing::list;
 use std::io::{self, Read, Write};
 
 fn main() -> io::Result<()> {

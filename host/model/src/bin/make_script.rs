@@ -1,7 +1,7 @@
 //! `make_script SEED LINES` prints a generated script;
 //! `make_script SEED LINES journal` the raw journal bytes that it leaves.
 
-use rossinhiu_host::generate::script;
+use rossinhiu_model::generate::script;
 use std::io::{self, Write};
 use std::process::ExitCode;
 

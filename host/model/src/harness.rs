@@ -1,7 +1,5 @@
 //! What the tests of whole programs share: finding them, running them, files.
 
-#![allow(dead_code)]
-
 use std::io::{Read, Write};
 use std::path::{Path, PathBuf};
 use std::process::{Child, Command, ExitStatus, Stdio};
@@ -19,9 +17,23 @@ pub fn turn() -> MutexGuard<'static, ()> {
     TURN.lock().unwrap_or_else(|held| held.into_inner())
 }
 
+/// The repository's folder.
+pub fn top() -> PathBuf {
+    Path::new(env!("CARGO_MANIFEST_DIR")).join("../..")
+}
+
+/// A compiler for x86-64: the system's own, or where that is for another processor the one that host/on-arm names.
+pub fn compiler(variable: &str, name: &str) -> Command {
+    Command::new(env::var_os(variable).unwrap_or(name.into()))
+}
+
+pub fn gcc() -> Command {
+    compiler("ROSSINHIU_CC", "gcc")
+}
+
 fn program(variable: &str, name: &str) -> PathBuf {
-    let beside = Path::new(env!("CARGO_MANIFEST_DIR")).join("../target/bin");
-    let path = env::var_os(variable).map_or(beside.join(name), PathBuf::from);
+    let beside = top().join("target/bin").join(name);
+    let path = env::var_os(variable).map_or(beside, PathBuf::from);
     assert!(
         path.is_file(),
         "the program under test, `{name}`, is not there: {}\n\
@@ -152,23 +164,21 @@ pub fn run(command: &mut Command, input: &[u8]) -> Ran {
 
 /// The shim, built once for each test program.
 pub fn shim() -> &'static Path {
-    static SHIM: OnceLock<PathBuf> = OnceLock::new();
-    SHIM.get_or_init(|| {
+    static SHIM: OnceLock<(Folder, PathBuf)> = OnceLock::new();
+    let (_, made) = SHIM.get_or_init(|| {
         let source = Path::new(env!("CARGO_MANIFEST_DIR")).join("shim/shim.c");
-        let folder = Path::new(env!("CARGO_TARGET_TMPDIR"));
-        let made = folder.join(format!("shim-{}.so", std::process::id()));
-        let kept = folder.join("shim.so");
-        let status = Command::new("gcc")
-            .args(["-O1", "-Wall", "-Wextra", "-shared", "-fPIC", "-o"])
+        let folder = Folder::new();
+        let made = folder.at("shim.so");
+        let status = gcc()
+            .args(["-O1", "-Wall", "-Wextra", "-Werror", "-shared", "-fPIC", "-o"])
             .args([made.as_path(), source.as_path()])
             .arg("-ldl")
             .status()
             .expect("gcc builds the shim");
         assert!(status.success(), "gcc: {status}");
-        // A run at the same time keeps the one that it has.
-        fs::rename(&made, &kept).unwrap();
-        kept
-    })
+        (folder, made)
+    });
+    made
 }
 
 /// A program under the shim: what it logs, and the call that fails.

@@ -1773,7 +1773,7 @@ impl Player {
         self.say("stretch");
         self.restore_at(end);
         self.say("status");
-        // A last line without a newline counts.
+        // A last line without a newline is answered, and not played.
         let last = self.rng.pick(&[
             b"status\n".as_slice(),
             b"status",

@@ -1,17 +1,14 @@
 //! examples/player.c: built with gcc, played, its disk cut anywhere, and its journal held against the model. And the header: its sizes
 //! and offsets are the library's.
 
-use rossinhiu_host::ffi;
-use rossinhiu_host::model::{Command as Offer, State, NAMES, RECORD};
+use rossinhiu::ffi;
+use rossinhiu_model::harness::{gcc, top};
+use rossinhiu_model::model::{Command as Offer, State, NAMES, RECORD};
 use std::fs;
 use std::io::Write;
 use std::mem::{offset_of, size_of};
 use std::path::{Path, PathBuf};
 use std::process::{Command, Output, Stdio};
-
-fn top() -> PathBuf {
-    Path::new(env!("CARGO_MANIFEST_DIR")).join("..")
-}
 
 /// A folder of this test's own.
 fn folder(name: &str) -> PathBuf {
@@ -32,7 +29,7 @@ fn built(folder: &Path, name: &str, source: &Path) -> PathBuf {
         "-Werror",
         "-O2",
     ];
-    let done = Command::new("gcc")
+    let done = gcc()
         .args(flags)
         .arg("-I")
         .arg(top().join("include"))

@@ -1,8 +1,8 @@
 //! The hand-steered script in reach/: its expected output is the model's, and it
 //! holds every answer number of every call but a restore's 9.
 
-use rossinhiu_host::console::Console;
-use rossinhiu_host::model::LAST_CYCLE;
+use rossinhiu_model::console::Console;
+use rossinhiu_model::model::LAST_CYCLE;
 use std::collections::BTreeSet;
 use std::fs;
 use std::path::Path;

@@ -1,14 +1,12 @@
 //! `bench FILE` held against the model: the order of its calls, failed calls,
 //! kills, cut files, files that it must leave alone.
 
-mod common;
-
-use common::*;
-use rossinhiu_host::console::JOURNAL;
-use rossinhiu_host::file::{steps, FileConsole, Put, Start, Step};
-use rossinhiu_host::generate::{script, Rng, MOODS};
-use rossinhiu_host::listing::list;
-use rossinhiu_host::model::{bytes_of, Opening, Record, RECORD};
+use rossinhiu_model::harness::*;
+use rossinhiu_model::console::JOURNAL;
+use rossinhiu_model::file::{steps, FileConsole, Put, Start, Step};
+use rossinhiu_model::generate::{script, Rng, MOODS};
+use rossinhiu_model::listing::list;
+use rossinhiu_model::model::{bytes_of, Opening, Record, RECORD};
 use std::fs;
 use std::io::{BufRead, BufReader, Read, Write};
 use std::os::unix::fs::{MetadataExt, PermissionsExt};
@@ -555,7 +553,7 @@ fn one_opening() -> Vec<u8> {
         ranks: 1,
         mode: 0,
         client: 7,
-        gaps: rossinhiu_host::generate::SETTINGS_A,
+        gaps: rossinhiu_model::generate::SETTINGS_A,
     };
     bytes_of(&Record::Opening(opening), 0).to_vec()
 }

@@ -1,0 +1,9 @@
+//! An independent program for document 01 and the bench console, held against the product from outside: a naive model, the listing,
+//! the console over the model, a maker of scripts, and what runs the programs.
+
+pub mod console;
+pub mod file;
+pub mod generate;
+pub mod harness;
+pub mod listing;
+pub mod model;
