@@ -3,6 +3,7 @@
  *
  * Link target/staticlib/libcapi.a (made by `rt staticlib capi`; x86-64 Linux). It wants memcpy, memmove and memset of the C library
  * and nothing else: no heap, no file, no thread, no global value. So calls with different states and journals may run at once.
+ * Header and archive belong together: an archive whose structs are laid out otherwise does not link.
  *
  * A player keeps two things: a state (struct rossinhiu_session, by value) and a journal (memory that it lends to each call).
  * A call takes the state and hands back the next one; the old value stays what it was.
@@ -11,14 +12,14 @@
  *     if (r.number == ROSSINHIU_ACCEPTED) { put r.session's last record on the disk; state = r.session; act; }
  *
  * Whenever an opening, an offer or a take-back is accepted, it has written one record of 64 bytes at journal + 64 * (records before
- * the call), and changed no other byte. Whenever it is refused, it hands back the same state and has changed no byte. A state and its journal belong together: lend the
- * same bytes each time, at any address, and as many as you like.
+ * the call), and changed no other byte. Whenever it is refused, it hands back the same state and has changed no byte. A state and its
+ * journal belong together: lend the same bytes each time, at any address, and as many as you like.
  *
  * No call can fail otherwise: any state value, any bytes and any numbers have an answer, nothing is read or written outside of what
  * is lent, and every call ends. The meaning of the answers is promised for states that the calls reach from rossinhiu_fresh or
  * rossinhiu_restore. The caller owes only what C asks of any function: a pointer with a size points to that many bytes that may be
  * read (and, if the pointer is not const, written), and they are nobody else's during the call. Where the size is 0 the pointer
- * may point anywhere, but must not be NULL.
+ * may be anything, NULL too.
  *
  * The state is 4,120 bytes, so give a thread that calls at least 64 KiB of stack.
  */
@@ -31,6 +32,9 @@
 #ifdef __cplusplus
 extern "C" {
 #endif
+
+/* The number of the layout of the structs below. Each function is exported under its name and this number. */
+#define ROSSINHIU_AS(name) __asm__(name "_1")
 
 /* Bytes of a record, and the most records that a journal can have. */
 #define ROSSINHIU_RECORD_SIZE 64
@@ -101,7 +105,7 @@ struct rossinhiu_gaps {
 };
 
 /* The state with which a bench begins: no session is open and the journal has no record. Not all bytes 0 by promise: call this. */
-struct rossinhiu_session rossinhiu_fresh(void);
+struct rossinhiu_session rossinhiu_fresh(void) ROSSINHIU_AS("rossinhiu_fresh");
 
 /*
  * Opens a session for a client and writes its record. `ratio` is 1, 2 or 4 DRAM cycles to a controller cycle, `ranks` 1 or 2, `mode`
@@ -109,11 +113,12 @@ struct rossinhiu_session rossinhiu_fresh(void);
  * number: 10, 9, or 0.
  */
 struct rossinhiu_opened {
-    struct rossinhiu_session session;
+    struct rossinhiu_session session; /* go on from it: with 0 once its record is on the disk; with any other number it is the old one */
     uint64_t number;
 };
 struct rossinhiu_opened rossinhiu_open(struct rossinhiu_session session, uint8_t *journal, size_t size, uint64_t ratio,
-                                       uint64_t ranks, uint64_t mode, uint32_t client, struct rossinhiu_gaps gaps);
+                                       uint64_t ranks, uint64_t mode, uint32_t client, struct rossinhiu_gaps gaps)
+    ROSSINHIU_AS("rossinhiu_open");
 
 /*
  * Offers a command at a controller cycle, and writes its record if it is accepted. `bank` is 0 with PREAB and REFAB.
@@ -121,13 +126,14 @@ struct rossinhiu_opened rossinhiu_open(struct rossinhiu_session session, uint8_t
  * is the earliest legal cycle and `gap` the number of the gap that asks for it. With any other number both are 0.
  */
 struct rossinhiu_offered {
-    struct rossinhiu_session session;
+    struct rossinhiu_session session; /* go on from it: with 0 once its record is on the disk; with any other number it is the old one */
     uint64_t number;
     uint64_t cycle;
     uint64_t gap;
 };
 struct rossinhiu_offered rossinhiu_offer(struct rossinhiu_session session, uint8_t *journal, size_t size, uint64_t kind,
-                                         uint64_t rank, uint64_t bank, uint64_t cycle);
+                                         uint64_t rank, uint64_t bank, uint64_t cycle)
+    ROSSINHIU_AS("rossinhiu_offer");
 
 /*
  * Asks for the earliest cycle at which a command may stand. Nothing is written.
@@ -140,24 +146,26 @@ struct rossinhiu_answer {
     uint64_t cycle;
     uint64_t gap;
 };
-struct rossinhiu_answer rossinhiu_earliest(struct rossinhiu_session session, uint64_t kind, uint64_t rank, uint64_t bank);
+struct rossinhiu_answer rossinhiu_earliest(struct rossinhiu_session session, uint64_t kind, uint64_t rank, uint64_t bank)
+    ROSSINHIU_AS("rossinhiu_earliest");
 
 /*
  * Takes back the latest surviving command, and writes a record of that. At most 64 can be taken back in a row.
  * number: the first that holds of 1, 8, 9; else 0.
  */
 struct rossinhiu_taken_back {
-    struct rossinhiu_session session;
+    struct rossinhiu_session session; /* go on from it: with 0 once its record is on the disk; with any other number it is the old one */
     uint64_t number;
 };
-struct rossinhiu_taken_back rossinhiu_take_back(struct rossinhiu_session session, uint8_t *journal, size_t size);
+struct rossinhiu_taken_back rossinhiu_take_back(struct rossinhiu_session session, uint8_t *journal, size_t size)
+    ROSSINHIU_AS("rossinhiu_take_back");
 
 /*
  * Says how the session stands: client number, record number of its opening, surviving commands, how many can be taken back, the last
  * surviving command's cycle (0 where there is none), records in the journal.
  * number: 1 with zeros, or 0. (With no session open read session.records for the records in the journal.)
  */
-struct rossinhiu_status {
+struct rossinhiu_standing {
     uint64_t number;
     uint32_t client;
     uint32_t opening;
@@ -166,7 +174,7 @@ struct rossinhiu_status {
     uint64_t last;
     uint64_t records;
 };
-struct rossinhiu_status rossinhiu_status(struct rossinhiu_session session);
+struct rossinhiu_standing rossinhiu_status(struct rossinhiu_session session) ROSSINHIU_AS("rossinhiu_status");
 
 /*
  * The state that a stored journal's bytes give: all its whole records; up to 63 bytes left over are ignored.
@@ -176,11 +184,13 @@ struct rossinhiu_status rossinhiu_status(struct rossinhiu_session session);
  * `record`; else 0. With 9 and 11 the state is the fresh one: nothing of the journal is in force.
  */
 struct rossinhiu_restored {
-    struct rossinhiu_session session;
+    struct rossinhiu_session session; /* with 0 go on from it, once the bytes are on the disk; with 9 and 11 it is the fresh state, and
+                                         what it writes would go over the journal: keep the journal, and don't go on from it */
     uint64_t number;
     uint64_t record;
 };
-struct rossinhiu_restored rossinhiu_restore(const uint8_t *journal, size_t size);
+struct rossinhiu_restored rossinhiu_restore(const uint8_t *journal, size_t size)
+    ROSSINHIU_AS("rossinhiu_restore");
 
 /*
  * Where the current client's records stand in a journal of `lent` bytes: from its opening to the last record, `size` bytes from
@@ -191,7 +201,8 @@ struct rossinhiu_part {
     size_t start;
     size_t size;
 };
-struct rossinhiu_part rossinhiu_stretch(struct rossinhiu_session session, size_t lent);
+struct rossinhiu_part rossinhiu_stretch(struct rossinhiu_session session, size_t lent)
+    ROSSINHIU_AS("rossinhiu_stretch");
 
 /*
  * Lists a part of a stored journal: one record (64 bytes), or as many as you like. Begin with rossinhiu_fresh, and hand in the
@@ -202,15 +213,38 @@ struct rossinhiu_part rossinhiu_stretch(struct rossinhiu_session session, size_t
  * the line `bad` or the line `end` is written: hand in no part after that.
  */
 struct rossinhiu_listed {
-    struct rossinhiu_session session;
+    struct rossinhiu_session session; /* for the next part. Don't offer from it: a listing stops before a bad record, and a restore of
+                                         all the bytes would have refused them */
     size_t written;
     uint64_t ended;
 };
 struct rossinhiu_listed rossinhiu_list_part(struct rossinhiu_session session, const uint8_t *part, size_t part_size, uint64_t last,
-                                            uint8_t *out, size_t out_size);
+                                            uint8_t *out, size_t out_size)
+    ROSSINHIU_AS("rossinhiu_list_part");
 
 #ifdef __cplusplus
 }
 #endif
+
+/*
+ * An empty vector's pointer may be NULL, which the calls themselves don't take. So in front of each call that takes a pointer stands a
+ * macro that hands on another one in its place.
+ */
+static inline uint8_t *rossinhiu_lent(uint8_t *bytes) {
+    static uint8_t nothing;
+    return bytes == NULL ? &nothing : bytes;
+}
+
+static inline const uint8_t *rossinhiu_shown(const uint8_t *bytes) {
+    static const uint8_t nothing = 0;
+    return bytes == NULL ? &nothing : bytes;
+}
+
+#define rossinhiu_open(session, journal, ...) rossinhiu_open(session, rossinhiu_lent(journal), __VA_ARGS__)
+#define rossinhiu_offer(session, journal, ...) rossinhiu_offer(session, rossinhiu_lent(journal), __VA_ARGS__)
+#define rossinhiu_take_back(session, journal, size) rossinhiu_take_back(session, rossinhiu_lent(journal), size)
+#define rossinhiu_restore(journal, size) rossinhiu_restore(rossinhiu_shown(journal), size)
+#define rossinhiu_list_part(session, part, part_size, last, out, out_size) \
+    rossinhiu_list_part(session, rossinhiu_shown(part), part_size, last, rossinhiu_lent(out), out_size)
 
 #endif

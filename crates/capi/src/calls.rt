@@ -1,4 +1,6 @@
 // The exported functions. None asks anything of its caller: a lent journal is any bytes, a state any state value, a number any number.
+// The number at the end of each name is that of the layout: where a struct that crosses changes, the next one takes its place, so that
+// a header and an archive that do not belong together do not link.
 ghost use mathlib.Core.Path.{_≡_};
 ghost use mathlib.Core.Bool.{not};
 ghost use mathlib.Core.List.{[]};
@@ -37,14 +39,14 @@ use session::state::Session;
 use timing::clocks::ControllerCycles;
 
 #[no_mangle]
-pub extern "C" fn rossinhiu_fresh() -> Session
+pub extern "C" fn rossinhiu_fresh_1() -> Session
     ensures { λ r. ⌜ (r ≡ freshState) × Rep r [] ⌝ }
 {
     Session::fresh()
 }
 
 #[no_mangle]
-pub extern "C" fn rossinhiu_open(
+pub extern "C" fn rossinhiu_open_1(
     session: Session,
     journal: &mut [u8],
     ratio: u64,
@@ -60,7 +62,7 @@ pub extern "C" fn rossinhiu_open(
 }
 
 #[no_mangle]
-pub extern "C" fn rossinhiu_offer(
+pub extern "C" fn rossinhiu_offer_1(
     session: Session,
     journal: &mut [u8],
     kind: u64,
@@ -74,28 +76,28 @@ pub extern "C" fn rossinhiu_offer(
 }
 
 #[no_mangle]
-pub extern "C" fn rossinhiu_earliest(session: Session, kind: u64, rank: u64, bank: u64) -> Answer
+pub extern "C" fn rossinhiu_earliest_1(session: Session, kind: u64, rank: u64, bank: u64) -> Answer
     ensures { λ r. ⌜ Told (earliestIn session kind rank bank) (λ h. earliestOn h kind rank bank) session (replyIn r) ⌝ }
 {
     earliest(session, kind, rank, bank)
 }
 
 #[no_mangle]
-pub extern "C" fn rossinhiu_take_back(session: Session, journal: &mut [u8]) -> TakenBack
+pub extern "C" fn rossinhiu_take_back_1(session: Session, journal: &mut [u8]) -> TakenBack
     ensures { λ r. ⌜ Called (takeBackIn (roomOf (length (now (journal .entry)))) session) (λ h. takeBackOn (roomOf (length (now (journal .entry)))) h) session (now (journal .entry)) (plain (r .number)) (r .session) (now (journal .exit)) ⌝ }
 {
     take_back(session, journal)
 }
 
 #[no_mangle]
-pub extern "C" fn rossinhiu_status(session: Session) -> StatusNumbers
+pub extern "C" fn rossinhiu_status_1(session: Session) -> StatusNumbers
     ensures { λ r. ⌜ Told (statusIn session) (λ h. statusOn h) session (statusGiven r) ⌝ }
 {
     status_numbers(status(session))
 }
 
 #[no_mangle]
-pub extern "C" fn rossinhiu_restore(journal: &[u8]) -> Restored
+pub extern "C" fn rossinhiu_restore_1(journal: &[u8]) -> Restored
     ensures { λ r. ⌜ RestoreTold (now (journal .entry)) (r .number) (r .«record») (r .session) ⌝ }
 {
     restore(journal)
@@ -103,7 +105,7 @@ pub extern "C" fn rossinhiu_restore(journal: &[u8]) -> Restored
 
 // Where the current client's stretch stands in a journal of so many bytes.
 #[no_mangle]
-pub extern "C" fn rossinhiu_stretch(session: Session, lent: usize) -> Stretch
+pub extern "C" fn rossinhiu_stretch_1(session: Session, lent: usize) -> Stretch
     ensures { λ r. ⌜ Told (stretchIn session lent) (λ h. stretchOf h lent) session (stretchTold r) × (r .start + r .size ≤ lent) ⌝ }
 {
     stretch_place(session, lent)
@@ -111,7 +113,7 @@ pub extern "C" fn rossinhiu_stretch(session: Session, lent: usize) -> Stretch
 
 // A part of a journal whose earlier parts gave the session, one record or many; `last` is 0 if another part follows.
 #[no_mangle]
-pub extern "C" fn rossinhiu_list_part(
+pub extern "C" fn rossinhiu_list_part_1(
     session: Session,
     part: &[u8],
     last: u64,

@@ -1,4 +1,4 @@
-//! The library's C functions as they are: include/rossinhiu.h in Rust. Every struct is made of numbers alone, so any bytes are
+//! The library's C functions as they are: include/rossinhiu.h in Rust. The number in the linked names is that of the layout. Every struct is made of numbers alone, so any bytes are
 //! a value of it.
 
 /// What a take-back must put back.
@@ -111,7 +111,9 @@ pub struct Listed {
 }
 
 extern "C" {
+    #[link_name = "rossinhiu_fresh_1"]
     pub fn rossinhiu_fresh() -> Session;
+    #[link_name = "rossinhiu_open_1"]
     pub fn rossinhiu_open(
         session: Session,
         journal: *mut u8,
@@ -122,6 +124,7 @@ extern "C" {
         client: u32,
         gaps: Gaps,
     ) -> Opened;
+    #[link_name = "rossinhiu_offer_1"]
     pub fn rossinhiu_offer(
         session: Session,
         journal: *mut u8,
@@ -131,11 +134,17 @@ extern "C" {
         bank: u64,
         cycle: u64,
     ) -> Offered;
+    #[link_name = "rossinhiu_earliest_1"]
     pub fn rossinhiu_earliest(session: Session, kind: u64, rank: u64, bank: u64) -> Numbers;
+    #[link_name = "rossinhiu_take_back_1"]
     pub fn rossinhiu_take_back(session: Session, journal: *mut u8, size: usize) -> TakenBack;
+    #[link_name = "rossinhiu_status_1"]
     pub fn rossinhiu_status(session: Session) -> Status;
+    #[link_name = "rossinhiu_restore_1"]
     pub fn rossinhiu_restore(journal: *const u8, size: usize) -> Restored;
+    #[link_name = "rossinhiu_stretch_1"]
     pub fn rossinhiu_stretch(session: Session, size: usize) -> Part;
+    #[link_name = "rossinhiu_list_part_1"]
     pub fn rossinhiu_list_part(
         session: Session,
         part: *const u8,

@@ -1,11 +1,11 @@
 //! The library's C functions held against the model: at least 5,000,000 calls, every answer and every byte of the journal.
 //! ROSSINHIU_CALLS gives another number of calls, ROSSINHIU_SEED the first seed.
 
+use rossinhiu::checker;
 use rossinhiu::ffi::{Numbers, Session};
 use rossinhiu_model::generate::{Rng, SETTINGS_A};
-use rossinhiu_model::model::{Command, State, LAST_CYCLE, MOST_RECORDS, RECORD};
-use rossinhiu::checker;
 use rossinhiu_model::listing;
+use rossinhiu_model::model::{Command, State, LAST_CYCLE, MOST_RECORDS, RECORD};
 use rossinhiu_speed::twin;
 use std::collections::BTreeMap;
 use std::sync::atomic::{AtomicU64, Ordering};

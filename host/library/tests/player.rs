@@ -1,67 +1,70 @@
-//! examples/player.c: built with gcc, played, its disk cut anywhere, and its journal held against the model. And the header: its sizes
-//! and offsets are the library's.
+//! examples/player.c and the player in Rust: played, their disk cut anywhere, each of their calls failing, and their journals held
+//! against the model. And the header: in C and in C++, its sizes and offsets are the library's.
 
 use rossinhiu::ffi;
-use rossinhiu_model::harness::{gcc, top};
+use rossinhiu_model::harness::*;
 use rossinhiu_model::model::{Command as Offer, State, NAMES, RECORD};
 use std::fs;
-use std::io::Write;
 use std::mem::{offset_of, size_of};
 use std::path::{Path, PathBuf};
-use std::process::{Command, Output, Stdio};
+use std::process::{Command, Output};
 
-/// A folder of this test's own.
-fn folder(name: &str) -> PathBuf {
-    let path = Path::new(env!("CARGO_TARGET_TMPDIR")).join(name);
-    let _ = fs::remove_dir_all(&path);
-    fs::create_dir_all(&path).expect("a folder for the test");
-    path
-}
+const FLAGS: [&str; 7] = [
+    "-Wall",
+    "-Wextra",
+    "-Wpedantic",
+    "-Wshadow",
+    "-Wconversion",
+    "-Werror",
+    "-O2",
+];
 
-/// Builds a C program over the header and the archive.
-fn built(folder: &Path, name: &str, source: &Path) -> PathBuf {
-    let program = folder.join(name);
-    let flags = [
-        "-std=c11",
-        "-Wall",
-        "-Wextra",
-        "-Wpedantic",
-        "-Werror",
-        "-O2",
-    ];
-    let done = gcc()
-        .args(flags)
+/// Builds a program over a header and the archive; what the compiler and the linker said.
+fn compiled(mut with: Command, header: &Path, source: &Path, program: &Path) -> Output {
+    with.args(FLAGS)
         .arg("-I")
-        .arg(top().join("include"))
+        .arg(header)
         .arg(source)
         .arg(top().join("target/staticlib/libcapi.a"))
         .arg("-o")
-        .arg(&program)
+        .arg(program)
         .output()
-        .expect("gcc runs");
+        .expect("the compiler runs")
+}
+
+/// Builds a C program over the header and the archive.
+fn built(folder: &Folder, name: &str, source: &Path) -> PathBuf {
+    let program = folder.at(name);
+    let mut with = gcc();
+    with.arg("-std=c11");
+    let done = compiled(with, &top().join("include"), source, &program);
     let said = String::from_utf8_lossy(&done.stderr);
     assert!(done.status.success(), "{}: {said}", source.display());
     program
 }
 
-fn player(folder: &Path) -> PathBuf {
-    built(folder, "player", &top().join("examples/player.c"))
+/// examples/player.c, and the player in Rust, which cargo builds beside this test.
+fn players(folder: &Folder) -> [PathBuf; 2] {
+    let test = std::env::current_exe().expect("this test's own path");
+    let beside = test.parent().and_then(Path::parent);
+    let rust = beside.expect("its folder").join("examples/player");
+    assert!(
+        rust.is_file(),
+        "{}: `cargo test` builds it, with no name of a test behind it",
+        rust.display()
+    );
+    [
+        built(folder, "player", &top().join("examples/player.c")),
+        rust,
+    ]
 }
 
-fn play(player: &Path, journal: &Path, room: usize, trace: &str) -> Output {
-    let mut child = Command::new(player)
-        .arg(journal)
-        .arg(room.to_string())
-        .stdin(Stdio::piped())
-        .stdout(Stdio::piped())
-        .stderr(Stdio::piped())
-        .spawn()
-        .expect("the player starts");
-    let mut input = child.stdin.take().expect("its input");
-    // A player that has stopped reads no more.
-    let _ = input.write_all(trace.as_bytes());
-    drop(input);
-    child.wait_with_output().expect("the player ends")
+fn play(player: &Path, journal: &Path, room: usize, trace: &str) -> Ran {
+    let room = room.to_string();
+    run(
+        &mut command(player, &[journal, Path::new(&room)]),
+        trace.as_bytes(),
+    )
 }
 
 /// The player's answers to a trace, and the state, by the model.
@@ -136,71 +139,303 @@ offer WR 0 3 300
 
 #[test]
 fn plays_and_restores_wherever_the_disc_was_cut() {
-    let folder = folder("cuts");
-    let player = player(&folder);
-    let journal = folder.join("journal");
-    let mut state = State::fresh();
-    for trace in [first_trace(), SECOND.to_string()] {
-        let done = play(&player, &journal, 12, &trace);
-        assert!(done.status.success());
-        let due = by_model(&mut state, 12, &trace);
-        assert_eq!(String::from_utf8_lossy(&done.stdout), due);
-        assert!(fs::read(&journal).expect("the journal") == state.journal());
-    }
-    let whole = state.journal();
-    for cut in 0..=whole.len() {
-        fs::write(&journal, &whole[..cut]).expect("a cut journal");
-        let (number, _, mut state) = State::restore(&whole[..cut]);
-        assert_eq!(number, 0);
-        // Another client goes on behind the cut: nothing of the old records may be left behind its own.
-        let trace = if cut % 2 == 0 { SECOND } else { "" };
-        let done = play(&player, &journal, 12, trace);
-        let due = by_model(&mut state, 12, trace);
-        assert_eq!(String::from_utf8_lossy(&done.stdout), due, "cut at {cut}");
-        assert!(fs::read(&journal).expect("the journal") == state.journal());
+    let folder = Folder::new();
+    let journal = folder.at("journal");
+    for (player, step) in players(&folder).iter().zip([1, 7]) {
+        let _ = fs::remove_file(&journal);
+        let mut state = State::fresh();
+        for trace in [first_trace(), SECOND.to_string()] {
+            let done = play(player, &journal, 12, &trace);
+            assert!(done.status.success());
+            assert_eq!(done.text(), by_model(&mut state, 12, &trace));
+            assert!(fs::read(&journal).unwrap() == state.journal());
+        }
+        let whole = state.journal();
+        for cut in (0..=whole.len()).step_by(step) {
+            fs::write(&journal, &whole[..cut]).unwrap();
+            let (number, _, mut state) = State::restore(&whole[..cut]);
+            assert_eq!(number, 0);
+            // Another client goes on behind the cut: nothing of the old records may be left behind its own.
+            let trace = if cut % 2 == 0 { SECOND } else { "" };
+            let done = play(player, &journal, 12, trace);
+            let due = by_model(&mut state, 12, trace);
+            assert_eq!(done.text(), due, "cut at {cut}");
+            // Bytes left over stay until a record takes their place.
+            let written = state.journal();
+            let kept = if trace.is_empty() {
+                &whole[..cut]
+            } else {
+                &written
+            };
+            assert!(fs::read(&journal).unwrap() == kept, "cut at {cut}");
+        }
     }
 }
 
+/// A journal that is refused, and a file that is none, keep every byte.
 #[test]
-fn a_bad_journal_is_not_played_on() {
-    let folder = folder("bad");
-    let player = player(&folder);
-    let journal = folder.join("journal");
-    assert!(play(&player, &journal, 100, &first_trace())
-        .status
-        .success());
-    let mut bytes = fs::read(&journal).expect("the journal");
-    bytes[2 * RECORD + 8] ^= 1;
-    fs::write(&journal, &bytes).expect("a spoilt journal");
-    let done = play(&player, &journal, 100, SECOND);
-    assert_eq!(done.status.code(), Some(1));
-    assert_eq!(String::from_utf8_lossy(&done.stdout), "restore 11 2\n");
-    assert!(fs::read(&journal).expect("the journal") == bytes);
+fn what_is_not_played_on_is_left_alone() {
+    let folder = Folder::new();
+    let journal = folder.at("journal");
+    for player in players(&folder) {
+        let _ = fs::remove_file(&journal);
+        assert!(play(&player, &journal, 100, &first_trace())
+            .status
+            .success());
+        let mut bad = fs::read(&journal).unwrap();
+        bad[2 * RECORD + 8] ^= 1;
+        for (bytes, out) in [
+            (bad.as_slice(), "restore 11 2\n"),
+            (b"a note, no journal\n", ""),
+        ] {
+            fs::write(&journal, bytes).unwrap();
+            let done = play(&player, &journal, 100, SECOND);
+            assert_eq!(done.status.code(), Some(1));
+            assert_eq!(done.text(), out);
+            assert_eq!(done.said().lines().count(), 1, "{}", done.said());
+            assert!(fs::read(&journal).unwrap() == bytes);
+        }
+    }
 }
 
 #[test]
 fn a_line_that_is_no_request_ends_the_play() {
-    let folder = folder("lines");
-    let player = player(&folder);
+    let folder = Folder::new();
     let wide = first_trace().replace(" 32\n", " 65536\n");
     let short = first_trace().replace(" 32\n", "\n");
-    for (n, trace) in [
+    let cut = first_trace().split_once('\n').unwrap().0.to_string();
+    let cut = cut[..cut.len() - 1].to_string();
+    let traces = [
         &wide,
         &short,
+        &cut,
         "offer ACT 0 3\n",
         "offer ACT 0 3 -1\n",
         "status\n",
-    ]
-    .into_iter()
-    .enumerate()
-    {
-        let journal = folder.join(n.to_string());
-        let done = play(&player, &journal, 100, trace);
-        assert_eq!(done.status.code(), Some(1), "{trace}");
-        let said = String::from_utf8_lossy(&done.stdout);
-        assert_eq!(said, "restored 0 records\n?\n", "{trace}");
-        assert_eq!(fs::metadata(&journal).expect("the journal").len(), 0);
+        "back",
+    ];
+    for player in players(&folder) {
+        for trace in traces {
+            let journal = folder.at("journal");
+            let done = play(&player, &journal, 100, trace);
+            assert_eq!(done.status.code(), Some(1), "{trace}");
+            assert_eq!(done.text(), "restored 0 records\n?\n", "{trace}");
+            assert_eq!(fs::metadata(&journal).unwrap().len(), 0);
+        }
     }
+}
+
+/// A remark of 4,095 bytes, behind which a request would begin for a player that reads lines in pieces.
+#[test]
+fn a_long_line_is_one_line() {
+    let folder = Folder::new();
+    let opening = first_trace()
+        .lines()
+        .find(|l| l.starts_with("open"))
+        .unwrap()
+        .to_string();
+    for (n, player) in players(&folder).iter().enumerate() {
+        for size in [4094, 4095, 4096, 8190] {
+            let journal = folder.at(&format!("{n}-{size}"));
+            let trace = format!("#{}back\n#{0}{opening}\n", "x".repeat(size - 1));
+            let done = play(player, &journal, 100, &trace);
+            assert!(done.status.success());
+            assert_eq!(
+                done.text(),
+                by_model(&mut State::fresh(), 100, ""),
+                "{size}"
+            );
+        }
+    }
+}
+
+/// A trace that can't be read, as a folder can't, is not at its end.
+#[test]
+fn a_trace_that_cannot_be_read() {
+    let folder = Folder::new();
+    let journal = folder.at("journal");
+    for player in players(&folder) {
+        let mut command = command(&player, &[&journal, Path::new("100")]);
+        command.stdin(fs::File::open(&folder.0).unwrap());
+        let done = command.output().unwrap();
+        assert_eq!(done.status.code(), Some(1));
+        assert_eq!(done.stdout, b"restored 0 records\n");
+        let said = String::from_utf8_lossy(&done.stderr);
+        assert!(said.contains("Is a directory"), "{said}");
+    }
+}
+
+// The order of calls.
+
+/// Accepted requests among what was printed.
+fn accepted(out: &[u8]) -> usize {
+    let text = String::from_utf8_lossy(out);
+    let is_accepted = |l: &&str| l.starts_with("play ") || *l == "open 0" || *l == "back 0";
+    text.lines().filter(is_accepted).count()
+}
+
+/// Before anything is told the file and its folder are durable; before each answer its record was written whole and made durable.
+fn assert_order(calls: &[Call], path: &Path, records: usize) -> Vec<u8> {
+    let folder = path.parent().unwrap().to_str().unwrap();
+    let (mut file, mut at) = (-1, -1);
+    let (mut out, mut written, mut durable) = (Vec::new(), records, None);
+    let mut is_named = false;
+    for call in calls {
+        let about = format!("{call:?}");
+        match call.name.as_str() {
+            "open" if call.path == path.to_str().unwrap() => file = call.fd,
+            "open" if call.path == folder => at = call.fd,
+            "pwrite" if call.fd == file => {
+                assert_eq!(
+                    (call.offset, call.count),
+                    (RECORD as i64 * written as i64, 64),
+                    "{about}"
+                );
+                written += usize::from(call.result == 64);
+            }
+            "fdatasync" | "fsync" if call.fd == file && call.result == 0 => durable = Some(written),
+            "fsync" if call.fd == at && call.result == 0 => is_named = true,
+            "write" if call.fd == 1 => {
+                out.extend_from_slice(&call.bytes);
+                assert!(is_named, "told before its name was durable: {about}");
+                let durable = durable.expect("told before the file was durable");
+                assert!(
+                    records + accepted(&out) <= durable,
+                    "answered before durable: {about}"
+                );
+            }
+            "ftruncate" => panic!("{about}"),
+            _ => {}
+        }
+    }
+    out
+}
+
+#[test]
+fn each_record_is_durable_before_the_player_acts() {
+    let folder = Folder::new();
+    let (journal, log) = (folder.at("journal"), folder.at("log"));
+    for player in players(&folder) {
+        let _ = fs::remove_file(&journal);
+        let mut state = State::fresh();
+        for trace in [first_trace(), SECOND.to_string(), String::new()] {
+            let _ = fs::remove_file(&log);
+            let records = state.records.len();
+            let words = [journal.as_path(), Path::new("100")];
+            let done = run(&mut shimmed(&player, &words, &log, ""), trace.as_bytes());
+            assert!(done.status.success(), "{}", done.said());
+            let told = assert_order(&calls(&log), &journal, records);
+            assert_eq!(told, by_model(&mut state, 100, &trace).into_bytes());
+        }
+    }
+}
+
+/// Each call on the file failing, in its turn: the player ends with 1, says what failed, and has acted on nothing that is not durable.
+#[test]
+fn each_call_failing() {
+    let folder = Folder::new();
+    let (journal, log) = (folder.at("journal"), folder.at("log"));
+    for player in players(&folder) {
+        for (call, turns, said) in [
+            ("pwrite", 1..=6, "writing a record"),
+            ("fdatasync", 1..=7, "syncing the journal"),
+            ("fsync", 1..=1, "folder"),
+            ("open", 1..=1, "journal"),
+        ] {
+            for turn in turns {
+                let _ = fs::remove_file(&journal);
+                let _ = fs::remove_file(&log);
+                let plan = format!("{call} {turn} errno 5");
+                let words = [journal.as_path(), Path::new("100")];
+                let done = run(
+                    &mut shimmed(&player, &words, &log, &plan),
+                    first_trace().as_bytes(),
+                );
+                assert_eq!(done.status.code(), Some(1), "{plan}: {}", done.said());
+                assert!(done.said().contains(said), "{plan}: {}", done.said());
+                let before = if call == "pwrite" { turn } else { turn - 1 };
+                let told = assert_order(&calls(&log), &journal, 0);
+                assert!(accepted(&told) < before.max(1), "{plan}");
+            }
+        }
+    }
+}
+
+// The header.
+
+/// A program that hands in NULL wherever that may be handed in.
+const NULLS: &str = r#"
+#include "rossinhiu.h"
+#include <stdio.h>
+int main(void) {
+    struct rossinhiu_session fresh = rossinhiu_fresh();
+    struct rossinhiu_gaps gaps = {{0}};
+    uint8_t one[64] = {0}, lines[128];
+    struct rossinhiu_opened s = rossinhiu_open(fresh, one, sizeof one, 1, 1, 0, 7, gaps);
+    struct rossinhiu_listed empty = rossinhiu_list_part(fresh, NULL, 0, 1, lines, sizeof lines);
+    struct rossinhiu_listed nowhere = rossinhiu_list_part(fresh, one, sizeof one, 1, NULL, 0);
+    printf("%d %d", (int)rossinhiu_open(s.session, NULL, 0, 1, 1, 0, 7, gaps).number, (int)s.number);
+    printf(" %d", (int)rossinhiu_offer(s.session, NULL, 0, ROSSINHIU_ACT, 0, 0, 0).number);
+    printf(" %d", (int)rossinhiu_take_back(fresh, NULL, 0).number);
+    printf(" %d %d", (int)rossinhiu_restore(NULL, 0).number, (int)rossinhiu_status(s.session).client);
+    printf(" %d %d %.*s", (int)empty.ended, (int)nowhere.written, (int)empty.written, (const char *)lines);
+    return 0;
+}
+"#;
+
+/// The header in C11 and in C++17, without a warning; NULL where nothing is lent.
+#[test]
+fn the_header_in_c_and_in_cpp() {
+    let folder = Folder::new();
+    let header = top().join("include");
+    let cpp = || compiler("ROSSINHIU_CXX", "g++");
+    for (name, standard, with) in [
+        ("null.c", "-std=c11", gcc()),
+        ("null.cpp", "-std=c++17", cpp()),
+    ] {
+        let (source, program) = (folder.at(name), folder.at("null"));
+        fs::write(&source, NULLS).unwrap();
+        let mut with = with;
+        with.arg(standard);
+        let done = compiled(with, &header, &source, &program);
+        let said = String::from_utf8_lossy(&done.stderr);
+        assert!(done.status.success() && said.is_empty(), "{name}: {said}");
+        let ran = run(&mut command(&program, &[]), b"");
+        assert_eq!(ran.text(), "9 0 9 1 0 7 1 0 end 0 0\n", "{name}");
+    }
+}
+
+/// A header of another layout does not link with the archive, whatever is called.
+#[test]
+fn another_layout_does_not_link() {
+    let folder = Folder::new();
+    let header = fs::read_to_string(top().join("include/rossinhiu.h")).unwrap();
+    let number = format!("\"_{LAYOUT}\"");
+    assert_eq!(header.matches(&number).count(), 1);
+    let other = header.replace(&number, &format!("\"_{}\"", LAYOUT + 1));
+    fs::write(folder.at("rossinhiu.h"), other).unwrap();
+    let source = folder.at("fresh.c");
+    let text = "#include <rossinhiu.h>\nint main(void) { return rossinhiu_fresh().is_open; }\n";
+    fs::write(&source, text).unwrap();
+    let program = folder.at("fresh");
+    let alike = compiled(gcc(), &top().join("include"), &source, &program);
+    assert!(alike.status.success());
+    let done = compiled(gcc(), &folder.0, &source, &program);
+    let said = String::from_utf8_lossy(&done.stderr);
+    assert!(
+        !done.status.success() && said.contains("undefined reference"),
+        "{said}"
+    );
+}
+
+/// The number of the layout, and what it stands for: where sizes or offsets change, the next number goes into the header, the exported
+/// names and their names in Rust, and both are written here anew.
+const LAYOUT: u64 = 1;
+const FINGERPRINT: u64 = 1_945_353_707_083_659_314;
+
+fn fingerprint(text: &str) -> u64 {
+    let step = |hash: u64, byte: u8| (hash ^ u64::from(byte)).wrapping_mul(0x100_0000_01b3);
+    text.bytes().fold(0xcbf2_9ce4_8422_2325, step)
 }
 
 /// Size, and the offset of each field, in C's words and in Rust's.
@@ -229,7 +464,7 @@ fn the_headers_layout() {
         "rossinhiu_offered" ffi::Offered { session, number, cycle, gap }
         "rossinhiu_answer" ffi::Numbers { number, cycle, gap }
         "rossinhiu_taken_back" ffi::TakenBack { session, number }
-        "rossinhiu_status" ffi::Status { number, client, opening, survivors, depth, last, records }
+        "rossinhiu_standing" ffi::Status { number, client, opening, survivors, depth, last, records }
         "rossinhiu_restored" ffi::Restored { session, number, record }
         "rossinhiu_part" ffi::Part { start, size }
         "rossinhiu_listed" ffi::Listed { session, written, ended }
@@ -239,15 +474,18 @@ fn the_headers_layout() {
         text += &format!("    printf(\"{word} %zu\\n\", {word});\n");
     }
     text += "    return 0;\n}\n";
-    let folder = folder("layout");
-    let source = folder.join("layout.c");
-    fs::write(&source, text).expect("the program");
-    let done = Command::new(built(&folder, "layout", &source)).output();
-    let came = String::from_utf8(done.expect("it runs").stdout).expect("its words");
+    let folder = Folder::new();
+    let source = folder.at("layout.c");
+    fs::write(&source, text).unwrap();
+    let came = run(&mut command(&built(&folder, "layout", &source), &[]), b"").text();
     let due: String = all
         .iter()
         .map(|(word, n)| format!("{word} {n}\n"))
         .collect();
     assert_eq!(came, due);
-    assert_eq!(size_of::<ffi::Session>(), 4120);
+    assert_eq!(
+        fingerprint(&due),
+        FINGERPRINT,
+        "another layout than {LAYOUT}: see LAYOUT"
+    );
 }

@@ -2,9 +2,9 @@
 //! prints the table of docs/SPEED.md. Every figure is a median of interleaved rounds over the same buffers.
 //! `speed full` adds a journal of 16,777,216 records (1 GiB).
 
+use rossinhiu::{checker, ffi};
 use rossinhiu_model::generate::SETTINGS_A;
 use rossinhiu_model::model::{MOST_RECORDS, RECORD};
-use rossinhiu::{checker, ffi};
 use rossinhiu_speed::{source000, twin};
 use std::hint::black_box;
 use std::time::Instant;
