@@ -6,13 +6,11 @@ ghost use mathlib.Core.Bool.{not};
 ghost use mathlib.Core.List.{[]};
 ghost use Prim.Native.Nat.{_+_, _≤_};
 ghost use lib.Dec.{eqb};
-ghost use lib.ListN.{length};
-ghost use Rattle.history.specs.Answers.{roomOf, plain, openOn, offerOn, earliestOn, takeBackOn, statusOn};
+ghost use Rattle.history.specs.Answers.{plain};
 ghost use Rattle.session.specs.State.{freshState};
-ghost use Rattle.journal.specs.Restore.{stretchOf};
-ghost use Rattle.statements.specs.Exact.{openIn, offerIn, earliestIn, takeBackIn, statusIn, stretchIn};
 ghost use Rattle.statements.specs.Rep.{Rep};
-ghost use Rattle.statements.specs.Statements.{Called, Told, RestoreTold};
+ghost use Rattle.statements.specs.Calls.{given, Opens, Offers, TakesBack, TellsEarliest, TellsStatus, PlacesStretch};
+ghost use Rattle.statements.specs.Statements.{Restores};
 ghost use Rattle.judging.specs.Judged.{replyIn};
 ghost use Rattle.checker.specs.Replies.{stretchTold};
 ghost use Rattle.capi.specs.Crossing.{statusGiven, ListsForC};
@@ -55,7 +53,7 @@ pub extern "C" fn rossinhiu_open_1(
     client: u32,
     gaps: Gaps,
 ) -> Opened
-    ensures { λ r. ⌜ Called (openIn (roomOf (length (now (journal .entry)))) session (record { opening = record { ratio = ratio; ranks = ranks; mode = mode; client = client }; gaps = gaps .gaps })) (λ h. openOn (roomOf (length (now (journal .entry)))) h (record { opening = record { ratio = ratio; ranks = ranks; mode = mode; client = client }; gaps = gaps .gaps })) session (now (journal .entry)) (plain (r .number)) (r .session) (now (journal .exit)) ⌝ }
+    ensures { λ r. ⌜ Opens session (now (journal .entry)) (given ratio ranks mode client (gaps .gaps)) (plain (r .number)) (r .session) (now (journal .exit)) ⌝ }
 {
     let given = gaps.gaps;
     open_session(session, journal, ratio, ranks, mode, client, given)
@@ -70,35 +68,35 @@ pub extern "C" fn rossinhiu_offer_1(
     bank: u64,
     cycle: u64,
 ) -> Offered
-    ensures { λ r. ⌜ Called (offerIn (roomOf (length (now (journal .entry)))) session kind rank bank cycle) (λ h. offerOn (roomOf (length (now (journal .entry)))) h kind rank bank cycle) session (now (journal .entry)) (replyIn (r .answer)) (r .session) (now (journal .exit)) ⌝ }
+    ensures { λ r. ⌜ Offers session (now (journal .entry)) kind rank bank cycle (replyIn (r .answer)) (r .session) (now (journal .exit)) ⌝ }
 {
     offer(session, journal, kind, rank, bank, ControllerCycles(cycle))
 }
 
 #[no_mangle]
 pub extern "C" fn rossinhiu_earliest_1(session: Session, kind: u64, rank: u64, bank: u64) -> Answer
-    ensures { λ r. ⌜ Told (earliestIn session kind rank bank) (λ h. earliestOn h kind rank bank) session (replyIn r) ⌝ }
+    ensures { λ r. ⌜ TellsEarliest session kind rank bank (replyIn r) ⌝ }
 {
     earliest(session, kind, rank, bank)
 }
 
 #[no_mangle]
 pub extern "C" fn rossinhiu_take_back_1(session: Session, journal: &mut [u8]) -> TakenBack
-    ensures { λ r. ⌜ Called (takeBackIn (roomOf (length (now (journal .entry)))) session) (λ h. takeBackOn (roomOf (length (now (journal .entry)))) h) session (now (journal .entry)) (plain (r .number)) (r .session) (now (journal .exit)) ⌝ }
+    ensures { λ r. ⌜ TakesBack session (now (journal .entry)) (plain (r .number)) (r .session) (now (journal .exit)) ⌝ }
 {
     take_back(session, journal)
 }
 
 #[no_mangle]
 pub extern "C" fn rossinhiu_status_1(session: Session) -> StatusNumbers
-    ensures { λ r. ⌜ Told (statusIn session) (λ h. statusOn h) session (statusGiven r) ⌝ }
+    ensures { λ r. ⌜ TellsStatus session (statusGiven r) ⌝ }
 {
     status_numbers(status(session))
 }
 
 #[no_mangle]
 pub extern "C" fn rossinhiu_restore_1(journal: &[u8]) -> Restored
-    ensures { λ r. ⌜ RestoreTold (now (journal .entry)) (r .number) (r .«record») (r .session) ⌝ }
+    ensures { λ r. ⌜ Restores (now (journal .entry)) (r .number) (r .«record») (r .session) ⌝ }
 {
     restore(journal)
 }
@@ -106,7 +104,7 @@ pub extern "C" fn rossinhiu_restore_1(journal: &[u8]) -> Restored
 // Where the current client's stretch stands in a journal of so many bytes.
 #[no_mangle]
 pub extern "C" fn rossinhiu_stretch_1(session: Session, lent: usize) -> Stretch
-    ensures { λ r. ⌜ Told (stretchIn session lent) (λ h. stretchOf h lent) session (stretchTold r) × (r .start + r .size ≤ lent) ⌝ }
+    ensures { λ r. ⌜ PlacesStretch session lent (stretchTold r) × (r .start + r .size ≤ lent) ⌝ }
 {
     stretch_place(session, lent)
 }

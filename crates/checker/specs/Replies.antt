@@ -1,12 +1,13 @@
 -- The replies that a status and a stretch stand for.
 use Rattle.history.specs.Answers as answers
 use Rattle.journal.specs.Restore.{Part}
+use Rattle.checker.specs.declared.answers.Status.{Status}
 use Rattle.checker.specs.declared.answers.StatusAnswer.{StatusAnswer}
 use Rattle.checker.specs.declared.answers.StatusAnswer.the-variants.{Known, NoSession}
 use Rattle.checker.specs.declared.answers.Stretch.{Stretch}
 
-abbrev pub statusReplied : StatusAnswer → answers.Status
-statusReplied (Known s) =
+abbrev pub knownStatus : Status → answers.Status
+knownStatus s =
     record {
       number = 0;
       client = s .client;
@@ -16,6 +17,9 @@ statusReplied (Known s) =
       last = s .last .0;
       records = s .records;
     }
+
+abbrev pub statusReplied : StatusAnswer → answers.Status
+statusReplied (Known s) = knownStatus s
 statusReplied NoSession = record { number = 1; client = 0; opening = 0; survivors = 0; depth = 0; last = 0; records = 0 }
 
 -- where the stretch stands in the lent journal

@@ -12,7 +12,7 @@ use Rattle.text.specs.declared.lines.Line.{Line}
 use Rattle.history.specs.Answers.{Reply, Verdict}
 use Rattle.session.specs.declared.state.Session.{Session}
 use Rattle.journal.specs.Restore.{Part, partOf}
-use Rattle.statements.specs.Exact.{Left, stretchIn, RestoredIn, Restores}
+use Rattle.statements.specs.Exact.{Left, stretchIn, RestoredIn, RestoreLeft}
 use Rattle.requests.specs.declared.requests.Parsed.{Parsed}
 use Rattle.requests.specs.declared.requests.Request.{Request}
 use Rattle.requests.specs.declared.requests.Request.the-variants.{Stretch}
@@ -29,7 +29,7 @@ module _ (s : Session) (lent : ℕ) (l : Line) (r : Response) (e : r ≡ saidOf 
   says-is xs j is = rw e (record { line = is; place = refl; count = refl; printed = refl; state = refl; lent = refl; journal = refl })
 
   -- a restore's
-  pub restores-is : (v : RestoredIn) (j : List ℕ) (number at : ℕ) → Restores v number at s → IsLine (restoreText number at) l → Responds (restores v lent j) r j
+  pub restores-is : (v : RestoredIn) (j : List ℕ) (number at : ℕ) → RestoreLeft v number at s → IsLine (restoreText number at) l → Responds (restores v lent j) r j
   restores-is v j number at told is =
       rw e
       (record {
@@ -70,6 +70,15 @@ pub stretch-is : (s : Session) (lent : ℕ) (j : List ℕ) (p : Part) (l : Line)
 stretch-is s lent j p l e inside low is =
     subst (λ (q : Part). Responds (prints (stretchText (q .size)) (q .start) (partOf q j) s lent j) (record { session = s; lent = lent; line = l; «hex_from» = p .start; «hex_count» = p .size }) j) e
     (prints-is (stretchText (p .size)) j s lent (p .start) (p .size) l is (omega arith))
+
+-- as many bytes as the part that is handed back has
+pub stretch-size : (s : Session) (lent : ℕ) (j : List ℕ) (p : Part) (bytes : List ℕ) → p ≡ stretchIn s lent → p .start + p .size ≤ lent → lent ≤ length j
+    → bytes ≡ partOf (stretchIn s (length (take lent j))) (take lent j) → length bytes ≡ p .size
+stretch-size s lent j p bytes e inside low is =
+    let all : length (take lent j) ≡ lent = length-take-le lent j low in
+    let same : stretchIn s (length (take lent j)) ≡ p = ap (stretchIn s) all ∙ sym e in
+    let left : p .size ≤ length (drop (p .start) (take lent j)) = simp length-drop (omega (arith, all)) in
+    ap length (is ∙ ap (λ (q : Part). partOf q (take lent j)) same) ∙ length-take-le (p .size) (drop (p .start) (take lent j)) left
 
 pub take-least : (count n : ℕ) (j : List ℕ) → n ≡ min count (length j) → take n j ≡ take count j
 take-least count n j e = go (leb count (length j)) refl

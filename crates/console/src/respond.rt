@@ -22,6 +22,7 @@ use checker::calls::earliest;
 use checker::calls::offer;
 use checker::calls::open_session;
 use checker::calls::status;
+use checker::calls::stretch;
 use checker::calls::stretch_place;
 use checker::calls::take_back;
 use requests::requests::Parsed;
@@ -148,15 +149,15 @@ fn stretched(session: Session, journal: &[u8], lent: usize) -> Response
     requires { ⌜ lent ≤ length (now journal) ⌝ }
     ensures { λ r. ⌜ Responds (outcomeIn session (now (journal .entry)) lent asks.Stretch []) r (now (journal .entry)) ⌝ }
 {
-    let part = stretch_place(session, lent);
-    let start = part.start;
-    let size = part.size;
+    let place = stretch_place(session, lent);
+    let part = stretch(session, &journal[..lent]);
+    let count = part.len();
     Response {
         session,
         lent,
-        line: stretch_line(size as u64),
-        hex_from: start,
-        hex_count: size,
+        line: stretch_line(count as u64),
+        hex_from: place.start,
+        hex_count: count,
     }
 }
 

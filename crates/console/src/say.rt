@@ -7,7 +7,7 @@ ghost use Rattle.text.specs.Lines.{Appended};
 ghost use Rattle.journal.specs.Listing.{space};
 ghost use Rattle.history.specs.Answers.{plain};
 ghost use Rattle.judging.specs.Judged.{replyIn};
-ghost use Rattle.checker.specs.Replies.{statusReplied};
+ghost use Rattle.checker.specs.Replies.{knownStatus, statusReplied};
 ghost use Rattle.console.specs.Say.{IsLine, numbered, openText, replyText, offerText, askText, backText, statusText, restoreText, lendText, pokeText, malformedText, stretchText, bytesText};
 use checker::answers::Status;
 use checker::answers::StatusAnswer;
@@ -75,7 +75,7 @@ pub fn back_line(number: u64) -> Line
 }
 
 fn known_line(status: Status) -> Line
-    ensures { λ r. ⌜ IsLine (statusText (record { number = 0; client = status .client; opening = status .opening; survivors = status .survivors; depth = status .depth; last = status .last .0; records = status .records })) r ⌝ }
+    ensures { λ r. ⌜ IsLine (statusText (knownStatus status)) r ⌝ }
 {
     let line = two(b"status", 0, status.client as u64);
     let placed = also(also(line, status.opening as u64), status.survivors);

@@ -10,8 +10,8 @@ use Rattle.session.specs.declared.state.Session.{Session}
 use Rattle.journal.specs.Restore.{Part}
 use Rattle.statements.specs.Exact.{Left}
 use Rattle.statements.specs.Rep.{Rep}
-use Rattle.statements.specs.Statements.{RestoreTold}
-use Rattle.demands.specs.Outcomes.{Outcome, Move, Answer, replied, stated, handed, Does, by-call, by-earliest, by-status, by-stretch}
+use Rattle.statements.specs.Statements.{Restores}
+use Rattle.statements.specs.Calls.{Outcome, Move, Answer, replied, stated, handed, Does, by-call, by-earliest, by-status, by-stretch, Seen, HandsStretch}
 use Rattle.demands.specs.Reached.{Reached}
 use Rattle.demands.specs.Alike.{Same, Had, ends, goes, Alike}
 use Rattle.demands.proofs.MoveLaws.{verdictOn, does-on}
@@ -32,11 +32,15 @@ pub determined : {m : Move} {s next next′ : Session} {lent bytes bytes′ : Li
 determined (by-call {c = c} {s = s} {lent = lent} p) (by-call q) = call-same c s lent p q
 determined (by-earliest p) (by-earliest q) = record { answer = ap replied (p .exact ∙ sym (q .exact)); state = refl; bytes = refl }
 determined (by-status p) (by-status q) = record { answer = ap stated (p .exact ∙ sym (q .exact)); state = refl; bytes = refl }
-determined (by-stretch {part = part} place p) (by-stretch {place = place′} other q) =
-    record { answer = ap (λ (x : Part). handed x part) (place .exact ∙ sym (other .exact)) ∙ ap (handed place′) (p .exact ∙ sym (q .exact)); state = refl; bytes = refl }
+determined (by-stretch {part = part} b i b₁ i₁ place p) (by-stretch {place = place′} b′ i′ b₂ i₂ other q) =
+    record { answer = ap (λ (x : Part). handed x part) (place .exact ∙ sym (other .exact)) ∙ ap (handed place′) (ap (λ (x : Seen). x .bytes) (p .exact) ∙ sym (ap (λ (x : Seen). x .bytes) (q .exact))); state = refl; bytes = refl }
+
+-- the part that is handed back, its place in memory too
+pub stretch-determined : (s : Session) (lent : Seen) {part part′ : Seen} → HandsStretch s lent part → HandsStretch s lent part′ → part ≡ part′
+stretch-determined s lent p q = p .exact ∙ sym (q .exact)
 
 -- a restore, whatever the bytes
-pub restore-determined : {bytes : List ℕ} {number number′ at at′ : ℕ} {next next′ : Session} → RestoreTold bytes number at next → RestoreTold bytes number′ at′ next′
+pub restore-determined : {bytes : List ℕ} {number number′ at at′ : ℕ} {next next′ : Session} → Restores bytes number at next → Restores bytes number′ at′ next′
     → (number ≡ number′) × (at ≡ at′) × (next ≡ next′)
 restore-determined p q =
     (p .exact .answer ∙ sym (q .exact .answer), p .exact .beside ∙ sym (q .exact .beside), p .exact .state ∙ sym (q .exact .state))

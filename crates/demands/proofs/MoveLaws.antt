@@ -9,7 +9,7 @@ use Rattle.history.specs.Struck.{open-session, offer, take-back, verdict}
 use Rattle.session.specs.declared.state.Session.{Session}
 use Rattle.journal.specs.Restore.{bytesAfter, Part, partOf, stretchOf}
 use Rattle.statements.specs.Rep.{Rep}
-use Rattle.demands.specs.Outcomes.{Move, calls, asks-earliest, asks-status, asks-stretch, Answer, replied, stated, handed, Does, by-call, by-earliest, by-status, by-stretch}
+use Rattle.statements.specs.Calls.{Move, calls, asks-earliest, asks-status, asks-stretch, Answer, replied, stated, handed, Does, by-call, by-earliest, by-status, by-stretch, Seen}
 
 abbrev pub answerOn : ℕ → History → Move → List ℕ → Answer
 answerOn room h (calls c) j = replied (replyOf (verdict room h c))
@@ -35,9 +35,9 @@ does-on (by-call {c = offer kind rank bank t} out) h rep = record { answer = ap 
 does-on (by-call {c = take-back} out) h rep = record { answer = ap replied (out .answer h rep); stands = out .state h rep; bytes = out .written h rep }
 does-on (by-earliest told) h rep = record { answer = ap replied (told .answer h rep); stands = rep; bytes = refl }
 does-on (by-status told) h rep = record { answer = ap stated (told .answer h rep); stands = rep; bytes = refl }
-does-on (by-stretch {lent = lent} {part = part} place bytes) h rep =
+does-on (by-stretch {lent = lent} {part = part} b i b′ i′ place part-is) h rep =
     record {
-      answer = ap (λ (p : Part). handed p part) (place .answer h rep) ∙ ap (handed (stretchOf h (length lent))) (bytes .answer h rep);
+      answer = ap (λ (p : Part). handed p part) (place .answer h rep) ∙ ap (handed (stretchOf h (length lent))) (ap (λ (x : Seen). x .bytes) (part-is .answer h rep));
       stands = rep;
       bytes = refl;
     }

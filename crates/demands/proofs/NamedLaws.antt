@@ -15,9 +15,9 @@ use Rattle.session.specs.State.{freshState}
 use Rattle.journal.specs.Bytes.{le, gapBytes, bytesOf, value, gapsFrom, sameBytes, recordIn}
 use Rattle.journal.specs.Restore.{written, pieces, bytesAfter, Restored, restored, restoreNumber, historyOf, replay, restoreOf}
 use Rattle.statements.specs.Rep.{Rep}
-use Rattle.statements.specs.Statements.{RestoreTold}
+use Rattle.statements.specs.Statements.{Restores}
 use Rattle.statements.proofs.KeepsLaws.{fresh-rep}
-use Rattle.demands.specs.Outcomes.{Outcome, Move, asks-status, Answer, replied, stated, handed, Does}
+use Rattle.statements.specs.Calls.{Outcome, Move, asks-status, Answer, replied, stated, handed, Does}
 use Rattle.demands.specs.Runs.{Plays, ends, plays}
 use Rattle.demands.specs.Named.{blank, client7, client9, shortMoves, shortAnswers, windowMoves, windowAnswers, twoOpenings}
 use Rattle.demands.proofs.MoveLaws.{answerOn, verdictOn, does-on}
@@ -81,7 +81,7 @@ client-of (stated s) = s .client
 client-of (replied r) = 0
 client-of (handed place part) = 0
 
-pub last-opening : {number at : ℕ} {next : Session} → RestoreTold twoOpenings number at next → (number ≡ 0) × (next ≢ freshState)
+pub last-opening : {number at : ℕ} {next : Session} → Restores twoOpenings number at next → (number ≡ 0) × (next ≢ freshState)
     × ((lent after : List ℕ) (status : Status) (last : Session) → Does asks-status next lent (stated status) last after → status .client ≡ 9)
 unfolding statusOn standing freshState
 last-opening {next = next} told =

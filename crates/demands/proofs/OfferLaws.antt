@@ -20,7 +20,7 @@ use Rattle.history.specs.Struck.{open-session, offer, take-back, current, recor
 use Rattle.history.proofs.AnswerLaws.{first-on}
 use Rattle.session.specs.declared.state.Session.{Session}
 use Rattle.statements.specs.Rep.{Rep}
-use Rattle.demands.specs.Outcomes.{Outcome, Move, calls, asks-earliest, asks-status, asks-stretch, Answer, replied, stated, handed, Does}
+use Rattle.statements.specs.Calls.{Outcome, Move, calls, asks-earliest, asks-status, asks-stretch, Answer, replied, stated, handed, Does}
 use Rattle.demands.specs.Runs.{Event, numberIn, lasting, Run, answerAt}
 use Rattle.demands.specs.Reached.{Reached}
 use Rattle.demands.specs.Offers.{Given, none, this, a-later, kindLines, linesOf, Ready, AsksMore, OfferMeans}

@@ -1,7 +1,7 @@
 -- No statement is about an empty set: from every state value and any lent bytes every move has an outcome.
 use mathlib.Core.Path.{refl, ap}
 use mathlib.Core.List.{List}
-use Prim.Native.Nat.{ℕ}
+use Prim.Native.Nat.{ℕ, _+_}
 use lib.ListN.{length}
 use Rattle.history.specs.Answers.{roomOf, Verdict, replyOf}
 use Rattle.history.specs.Struck.{Call, open-session, offer, take-back}
@@ -10,7 +10,7 @@ use Rattle.journal.specs.Restore.{bytesAfter, Part, partOf}
 use Rattle.statements.specs.Exact.{stateAfter, openIn, offerIn, earliestIn, takeBackIn, statusIn, stretchIn}
 use Rattle.statements.proofs.CalledLaws.{TypedCall, called-left, told}
 use Rattle.statements.proofs.MeansLaws.{open-means, offer-means, earliest-means, take-back-means, status-means, stretch-means}
-use Rattle.demands.specs.Outcomes.{Outcome, Move, calls, asks-earliest, asks-status, asks-stretch, Answer, replied, stated, handed, Does, by-call, by-earliest, by-status, by-stretch}
+use Rattle.statements.specs.Calls.{Outcome, Move, calls, asks-earliest, asks-status, asks-stretch, Answer, replied, stated, handed, Does, by-call, by-earliest, by-status, by-stretch, partIn}
 
 pub record Some (m : Move) (s : Session) (lent : List ℕ) : Type 0 where
   pub answer : Answer
@@ -52,6 +52,6 @@ module _ (s : Session) (lent : List ℕ) where
         next = s;
         bytes = lent;
         outcome =
-            by-stretch (told (λ h rep. stretch-means s h rep room (length lent)) refl)
-            (told (λ h rep. ap (λ (p : Part). partOf p lent) (stretch-means s h rep room (length lent))) refl);
+            by-stretch 0 0 0 (place .start + 0) (told (λ h rep. stretch-means s h rep room (length lent)) refl)
+            (told (λ h rep. ap (λ (p : Part). partIn p (record { block = 0; place = 0; bytes = lent })) (stretch-means s h rep room (length lent))) refl);
       }

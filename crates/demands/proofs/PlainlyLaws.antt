@@ -22,10 +22,10 @@ use Rattle.journal.specs.Bytes.{recordSize}
 use Rattle.session.specs.State.{freshState}
 use Rattle.journal.specs.Bytes.{recordSize}
 use Rattle.journal.specs.Restore.{Part, noPart, partOf, stretchOf}
-use Rattle.statements.specs.Statements.{Told, RestoreTold}
+use Rattle.statements.specs.Statements.{Told, Restores}
 use Rattle.judging.specs.Judged.{isClosed, afterIn, earlyIn}
 use Rattle.statements.specs.Exact.{earliestIn, earliestInCase, statusIn, statusInCase, stretchIn, stretchInCase, RestoredIn, tooLong, badAt, restored, restoredNumber, restoredAt, restoredState, restoreIn, openIn, offerIn, offerInCase, takeBackIn, takeBackInCase, Left}
-use Rattle.demands.specs.Outcomes.{Outcome}
+use Rattle.statements.specs.Calls.{Seen, partIn, PlacesStretch, HandsStretch, Outcome}
 use Rattle.demands.specs.Plainly.{ownNumbers, ownCycle, Plainly, EarliestPlainly, StatusPlainly, StretchPlainly, RestorePlainly}
 
 -- a verdict that shows only what a call with these numbers and this cycle may show
@@ -177,26 +177,28 @@ status-plain s status told = subst StatusPlainly (sym (told .exact)) (go (isClos
     go true = record { own = List·Memᴰ·head refl; zeros = λ p. refl }
     go false = record { own = List·Memᴰ·tail (List·Memᴰ·head refl); zeros = λ p. absurd (p refl) }
 
-pub stretch-plain : (s : Session) (lent part : List ℕ) (place : Part) → Told (stretchIn s (length lent)) (λ h. stretchOf h (length lent)) s place
-    → Told (partOf (stretchIn s (length lent)) lent) (λ h. partOf (stretchOf h (length lent)) lent) s part → StretchPlainly lent place part
+pub stretch-plain : (s : Session) (lent part : Seen) (place : Part) → PlacesStretch s (length (lent .bytes)) place → HandsStretch s lent part → StretchPlainly lent place part
 unfolding stretchIn
-stretch-plain s lent part place told bytes =
-    record { inside = subst Inside (sym (told .exact)) (go (isClosed s)); itself = bytes .exact ∙ ap (λ (p : Part). partOf p lent) (sym (told .exact)) }
+stretch-plain s lent part place told hands =
+    record { inside = subst Inside (sym (told .exact)) (go (isClosed s)); itself = hands .exact ∙ ap (λ (p : Part). partIn p lent) (sym (told .exact)) }
   where
-    Inside : Part → Type 0
-    Inside p = p .start + p .size ≤ length lent
+    size : ℕ
+    size = length (lent .bytes)
 
-    by : (z : Bool) → (leb (recordSize * s .records) (length lent) && ltb (s .number) (s .records)) ≡ z
+    Inside : Part → Type 0
+    Inside p = p .start + p .size ≤ size
+
+    by : (z : Bool) → (leb (recordSize * s .records) size && ltb (s .number) (s .records)) ≡ z
         → Inside (cond z (record { start = recordSize * s .number; size = recordSize * (s .records - s .number) }) noPart)
-    by true e = let w = and-true (leb (recordSize * s .records) (length lent)) (ltb (s .number) (s .records)) e in omega (arith, leb-true (recordSize * s .records) (length lent) (w .0), ltb-true (s .number) (s .records) (w .1))
+    by true e = let w = and-true (leb (recordSize * s .records) size) (ltb (s .number) (s .records)) e in omega (arith, leb-true (recordSize * s .records) size (w .0), ltb-true (s .number) (s .records) (w .1))
     by false e = omega arith
 
-    go : (z : Bool) → Inside (stretchInCase s z (length lent))
+    go : (z : Bool) → Inside (stretchInCase s z size)
     go true = omega arith
-    go false = by (leb (recordSize * s .records) (length lent) && ltb (s .number) (s .records)) refl
+    go false = by (leb (recordSize * s .records) size && ltb (s .number) (s .records)) refl
 
 -- a restore of any bytes
-pub restore-plain : (bytes : List ℕ) (number at : ℕ) (next : Session) → RestoreTold bytes number at next → RestorePlainly number at next
+pub restore-plain : (bytes : List ℕ) (number at : ℕ) (next : Session) → Restores bytes number at next → RestorePlainly number at next
 unfolding freshState
 restore-plain bytes number at next told = rw (told .exact .answer, told .exact .beside, told .exact .state) (go (restoreIn bytes))
   where

@@ -4,10 +4,10 @@ use mathlib.Core.Bool.{Bool, true, false, cond}
 use mathlib.Core.List.{List, [], _∷_, _++_}
 use Prim.Native.Nat.{ℕ, suc, _+_, _-_, _*_, _/_, _≤_, _<_, min}
 use native.Mathlib.Omega.{arith}
-use lib.Dec.{leb}
+use lib.Dec.{leb, eqb}
 use lib.ListN.{length, take, drop, length-append, length-drop, take-append-drop}
 use lib.Seq.{drop-drop, take-append-le, drop-append-le, take-take}
-use borrow.Author.Tests.{leb-true, leb-false, le-leb}
+use borrow.Author.Tests.{leb-true, leb-false, le-leb, eqb-true, eqb-false}
 use Rattle.history.specs.Records.{History, Current, closed, session, standing}
 use Rattle.history.specs.Answers.{maxRecords, roomOf, Verdict, refused, accepted, replyOf, nextOf, openOn, offerOn, earliestOn, takeBackOn, statusOn}
 use Rattle.history.specs.Struck.{Call, open-session, offer, take-back, Answered, unrefused, recordsOf, recordsIn, verdict, LeadsTo, nothing-yet, then}
@@ -19,10 +19,10 @@ use Rattle.session.specs.State.{freshState}
 use Rattle.journal.specs.Bytes.{bytesOf}
 use Rattle.journal.specs.Restore.{written, putAt, bytesAfter, restored, restoreNumber, restoreAt, historyOf, restoreOf, Part, partOf, stretchCase, stretchOf}
 use Rattle.statements.specs.Rep.{AllSized, Rep}
-use Rattle.statements.specs.Statements.{RestoreTold}
+use Rattle.statements.specs.Statements.{Restores}
 use Rattle.statements.proofs.KeepsLaws.{fresh-rep}
-use Rattle.demands.specs.Outcomes.{Move, calls, asks-earliest, asks-status, asks-stretch, Answer, handed, Does}
-use Rattle.demands.specs.Runs.{Event, rightAfter, numberIn, noted, lasting, Run, starts, moves, fails, answerAt, answerBy, Plays, ends, plays, Placed, putAll, GoesOnAs}
+use Rattle.statements.specs.Calls.{Move, calls, asks-earliest, asks-status, asks-stretch, Answer, handed, Does}
+use Rattle.demands.specs.Runs.{Event, rightAfter, numberIn, noted, lasting, Run, starts, moves, fails, answerAt, answerBy, standsAt, ends, plays, Placed, putAll, GoesOnAs, GoesOnFrom}
 use Rattle.demands.proofs.MoveLaws.{answerOn, verdictOn, does-on}
 use Rattle.demands.proofs.WrittenLaws.{length-written, put-behind, older, older-all, older-less, older-length, written-older, restore-cut}
 
@@ -72,7 +72,7 @@ wound-step : (h : History) (v : Verdict) (n : ℕ) → n < length (nextOf h v) �
 wound-step h (refused r) n l = (omega arith, refl)
 wound-step h (accepted r e) n l = let less : n ≤ length h = omega arith in (less, older-less e h n less)
 
-leads-right-after : {ps : List Answered} {h : History} → LeadsTo ps h → (n : ℕ) → n ≤ length h → LeadsTo (rightAfter n ps) (older n h)
+pub leads-right-after : {ps : List Answered} {h : History} → LeadsTo ps h → (n : ℕ) → n ≤ length h → LeadsTo (rightAfter n ps) (older n h)
 unfolding rightAfter
 leads-right-after nothing-yet n l = let none : n ≡ 0 = omega arith in rw none nothing-yet
 leads-right-after (then {ps = ps} {h = h} before room c) n l = go (leb (recordsIn (a ∷ ps)) n) refl (λ less. leads-right-after before n less)
@@ -96,7 +96,7 @@ leads-right-after (then {ps = ps} {h = h} before room c) n l = go (leb (recordsI
 
 -- a restore of the first k bytes gives the first k / 64 records
 module _ (room : ℕ) (h : History) (s next : Session) (first j after : List ℕ) (k : ℕ) (is : Holding room h s first j) (l : k ≤ 64 * length h)
-    (same : take k after ≡ take k j) (number at : ℕ) (told : RestoreTold (take k after) number at next) where
+    (same : take k after ≡ take k j) (number at : ℕ) (told : Restores (take k after) number at next) where
   abbrev whole : ℕ
   whole = k / 64
 
@@ -131,13 +131,13 @@ pub record Came (room : ℕ) (es : List Event) (s : Session) (first j : List ℕ
   pub told : LeadsTo (lasting es) records
   pub holding : Holding room records s first j
 
-noted-told : (m : Move) (room : ℕ) (ps : List Answered) (h : History) (j : List ℕ) (a : Answer) → LeadsTo ps h → a ≡ answerOn room h m j → LeadsTo (noted m (numberIn a) ps) (nextOf h (verdictOn room h m))
+pub noted-told : (m : Move) (room : ℕ) (ps : List Answered) (h : History) (j : List ℕ) (a : Answer) → LeadsTo ps h → a ≡ answerOn room h m j → LeadsTo (noted m (numberIn a) ps) (nextOf h (verdictOn room h m))
 noted-told (calls c) room ps h j a told is = subst (λ (n : ℕ). LeadsTo (record { call = c; number = n } ∷ ps) (nextOf h (verdict room h c))) (sym (ap numberIn is)) (then told room c)
 noted-told (asks-earliest kind rank bank) room ps h j a told is = told
 noted-told asks-status room ps h j a told is = told
 noted-told asks-stretch room ps h j a told is = told
 
-pub came : {room : ℕ} {es : List Event} {s : Session} {first j : List ℕ} → Run room es s first j → Came room es s first j
+unfoldable pub came : {room : ℕ} {es : List Event} {s : Session} {first j : List ℕ} → Run room es s first j → Came room es s first j
 unfolding lasting written
 came (starts j room-is) = record { records = []; told = nothing-yet; holding = record { rep = fresh-rep; room-is = room-is; begins = refl } }
 came {room} (moves {es = es} {j = j} {m = m} {a = a} before d) =
@@ -262,48 +262,84 @@ goes-on room h s s′ first first′ j j′ k k′ ms xs xs′ last last′ fina
       },
     )
 
--- moves only add records
-pub record Grown (room : ℕ) (h : History) (s : Session) (first j : List ℕ) : Type 0 where
-  pub records : History
-  pub holding : Holding room records s first j
-  pub more : length h ≤ length records
-  pub on : older (length h) records ≡ h
+-- a moment of a run, by its events, at which the journal held these records
+record Moment (room : ℕ) (es : List Event) (h : History) : Type 0 where
+  pub state : Session
+  pub begun : List ℕ
+  pub journal : List ℕ
+  pub run : Run room es state begun journal
+  pub holding : Holding room h state begun journal
 
-grown-step : (room : ℕ) (h : History) (v : Verdict) (s : Session) (first j : List ℕ) → Grown room (nextOf h v) s first j → Grown room h s first j
-grown-step room h (refused r) s first j g = g
-grown-step room h (accepted r e) s first j g =
-    record { records = g .records; holding = g .holding; more = omega (arith, g .more); on = back }
-  where
-    n : ℕ
-    n = length h
+older-older : (n w : ℕ) (h : History) → n ≤ w → w ≤ length h → older n (older w h) ≡ older n h
+older-older n w h l m =
+    let size = older-length h w m in
+    let less : length h - w + (length (older w h) - n) ≡ length h - n = omega (arith, size) in
+    drop-drop (length (older w h) - n) (length h - w) h ∙ ap (λ (k : ℕ). drop k h) less
 
-    back : older n (g .records) ≡ h
-    back =
-        let total = length (g .records) in
-        let one : total - n ≡ total - suc n + 1 = omega (arith, g .more) in
-        ap (λ (k : ℕ). drop k (g .records)) one ∙ sym (drop-drop 1 (total - suc n) (g .records)) ∙ ap (drop 1) (g .on)
+-- every number of records up to now was had last at some moment, and those are the first records of now
+module _ {room : ℕ} where
+  now-or-before : {e : Event} {es : List Event} {s : Session} {first j : List ℕ} (run : Run room (e ∷ es) s first j) (n : ℕ) → n ≤ length (came run .records)
+      → (n < length (came run .records) → Moment room (standsAt n es) (older n (came run .records))) → Moment room (standsAt n (e ∷ es)) (older n (came run .records))
+  unfolding standsAt
+  now-or-before {e} {es} {s} {first} {j} run n l before = go (eqb (recordsIn (lasting (e ∷ es))) n) refl
+    where
+      h : History
+      h = came run .records
 
-plays-hold : (room : ℕ) (h : History) {s last : Session} {first j after : List ℕ} {ms : List Move} {xs : List Answer} → Holding room h s first j → Plays s j ms xs last after → Grown room h last first after
-plays-hold room h k ends = record { records = h; holding = k; more = omega arith; on = older-all h (length h) refl }
-plays-hold room h {last = last} {first = first} {after = after} k (plays {m = m} d p) =
-    grown-step room h (verdictOn room h m) last first after (plays-hold room (nextOf h (verdictOn room h m)) (does-holds room h k d) p)
+      count : length h ≡ recordsIn (lasting (e ∷ es))
+      count = leads-kept (came run .told) .count
 
--- DEMAND 3, second half. A run stands where its last record is number k / 64, and goes on; the mains fail, and the first k bytes are left.
--- The restore answers 0, and what it gives goes on as the run did from there, over any journal with these first bytes and this room
-pub cut : {room : ℕ} {es : List Event} {s last next : Session} {first j j′ after : List ℕ} {ms : List Move} {xs : List Answer} {k number at : ℕ}
-    → Run room es s first j → Plays s j ms xs last j′ → k / 64 ≡ s .records → k ≤ 64 * last .records
-    → roomOf (length after) ≡ room → take k after ≡ take k j′ → RestoreTold (take k after) number at next
-    → (number ≡ 0) × (at ≡ 0) × GoesOnAs next after s j
-cut {room} {es} {s} {last} {next} {first} {j} {j′} {after} {ms} {xs} {k} {number} {at} run on whole l room-is same told =
+      go : (t : Bool) → eqb (recordsIn (lasting (e ∷ es))) n ≡ t → Moment room (cond t (e ∷ es) (standsAt n es)) (older n h)
+      go true is =
+          let all : n ≡ length h = omega (arith, eqb-true (recordsIn (lasting (e ∷ es))) n is, count) in
+          record { state = s; begun = first; journal = j; run = run; holding = subst (λ (x : History). Holding room x s first j) (sym (older-all h n all)) (came run .holding) }
+      go false is = before (omega (arith, eqb-false (recordsIn (lasting (e ∷ es))) n is, count, l))
+
+  moment : {es : List Event} {s : Session} {first j : List ℕ} (run : Run room es s first j) (n : ℕ) → n ≤ length (came run .records)
+      → Moment room (standsAt n es) (older n (came run .records))
+  unfolding standsAt came
+  moment (starts j room-is) n l =
+      let none : n ≡ 0 = omega arith in
+      rw none (record { state = freshState; begun = j; journal = j; run = starts j room-is; holding = came (starts j room-is) .holding })
+  moment (moves {es = es} {m = m} before d) n l =
+      now-or-before (moves before d) n l
+      (λ less.
+      let h = came before .records in
+      let w = wound-step h (verdictOn room h m) n less in
+      subst (Moment room (standsAt n es)) (sym (w .1)) (moment before n (w .0)))
+  moment (fails {es = es} {s = s} before k low after room-is same number at told) n l =
+      now-or-before (fails before k low after room-is same number at told) n l
+      (λ less.
+      let h = came before .records in
+      let inside : k / 64 ≤ length h = omega (arith, came before .holding .rep .records, low) in
+      let size = older-length h (k / 64) inside in
+      let fits : n ≤ k / 64 = omega (arith, size, less) in
+      subst (Moment room (standsAt n es)) (sym (older-older n (k / 64) h fits inside)) (moment before n (omega (arith, fits, inside))))
+
+-- DEMAND 3, second half. The mains fail after any run, and the first k bytes are left. The restore answers 0, and what it gives goes on as the run
+-- did right after record k / 64 was last written, over any journal with these first bytes and this room
+pub cut : {room : ℕ} {es : List Event} {last next : Session} {first j after : List ℕ} {k number at : ℕ}
+    → Run room es last first j → k ≤ 64 * last .records → roomOf (length after) ≡ room → take k after ≡ take k j → Restores (take k after) number at next
+    → (number ≡ 0) × (at ≡ 0) × GoesOnFrom room (k / 64) es next after
+cut {room} {es} {last} {next} {first} {j} {after} {k} {number} {at} run l room-is same told =
     let w = came run in
     let h = w .records in
-    let g = plays-hold room h (w .holding) on in
-    let low : k ≤ 64 * length (g .records) = rw (g .holding .rep .records) at l in
-    let here : k / 64 ≡ length h = whole ∙ w .holding .rep .records in
-    let numbers = cut-number room (g .records) last next first j′ after k (g .holding) low same number at told in
-    let restored-holds = cut-holds room (g .records) last next first j′ after k (g .holding) low same number at told room-is in
-    let back : older (k / 64) (g .records) ≡ h = ap (λ (n : ℕ). older n (g .records)) here ∙ g .on in
-    (numbers .0, numbers .1, goes-on room h next s after first after j (subst (λ (x : History). Holding room x next after after) back restored-holds) (w .holding))
+    let low : k ≤ 64 * length h = rw (w .holding .rep .records) at l in
+    let inside : k / 64 ≤ length h = omega (arith, low) in
+    let numbers = cut-number room h last next first j after k (w .holding) low same number at told in
+    let restored-holds = cut-holds room h last next first j after k (w .holding) low same number at told room-is in
+    let m = moment run (k / 64) inside in (
+      numbers .0,
+      numbers .1,
+      record {
+        state = m .state;
+        begun = m .begun;
+        journal = m .journal;
+        run = m .run;
+        count = m .holding .rep .records ∙ older-length h (k / 64) inside;
+        on = goes-on room (older (k / 64) h) next (m .state) after (m .begun) after (m .journal) restored-holds (m .holding);
+      },
+    )
 
 -- two runs whose accepted calls are the same go on alike, whatever failed, was refused or was asked in either
 pub same-calls : {room : ℕ} {es es′ : List Event} {s s′ : Session} {first first′ j j′ : List ℕ}
@@ -329,7 +365,7 @@ none-left (a ∷ ps) = go (leb (recordsIn (a ∷ ps)) 0) refl (none-left ps)
 
 -- where no whole record is left, the restored state goes on as a fresh one
 pub cut-fresh : {room : ℕ} {es : List Event} {s next : Session} {first j after blank : List ℕ} {k number at : ℕ}
-    → Run room es s first j → k ≤ 64 * s .records → k < 64 → roomOf (length after) ≡ room → take k after ≡ take k j → RestoreTold (take k after) number at next
+    → Run room es s first j → k ≤ 64 * s .records → k < 64 → roomOf (length after) ≡ room → take k after ≡ take k j → Restores (take k after) number at next
     → roomOf (length blank) ≡ room → GoesOnAs next after freshState blank
 unfolding lasting unrefused
 cut-fresh {es = es} {after = after} {blank = blank} {k = k} {number = number} {at = at} run l short room-is same told blank-room =

@@ -9,7 +9,7 @@ use Rattle.session.specs.declared.state.Session.{Session}
 use Rattle.journal.specs.Restore.{historyOf, restoreOf}
 use Rattle.statements.specs.Rep.{Rep}
 use Rattle.statements.proofs.KeepsLaws.{fresh-rep}
-use Rattle.demands.specs.Outcomes.{Outcome}
+use Rattle.statements.specs.Calls.{Outcome}
 use Rattle.demands.specs.Reached.{Reached, from-fresh, by-call, by-restore}
 
 -- an outcome goes on standing for the history that document 01 gives

@@ -3,7 +3,7 @@ use mathlib.Core.Path.{_≡_}
 use mathlib.Core.List.{List, [], _∷_}
 use Prim.Native.Nat.{ℕ}
 use Rattle.session.specs.declared.state.Session.{Session}
-use Rattle.demands.specs.Outcomes.{Move, Answer, Does}
+use Rattle.statements.specs.Calls.{Move, Answer, Does}
 
 -- two outcomes of one move are the same
 pub record Same (a a′ : Answer) (next next′ : Session) (b b′ : List ℕ) : Type 0 where

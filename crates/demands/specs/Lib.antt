@@ -1,4 +1,3 @@
-pub mod Outcomes
 pub mod Reached
 pub mod Offers
 pub mod Plainly

@@ -6,7 +6,7 @@ use Rattle.history.specs.Records.{opening}
 use Rattle.history.specs.Cases.{settings, gapsA, changed, gaps, reply}
 use Rattle.history.specs.Struck.{open-session, offer, take-back}
 use Rattle.journal.specs.Bytes.{zeros, bytesOf}
-use Rattle.demands.specs.Outcomes.{Move, calls, asks-earliest, asks-status, Answer, replied, stated}
+use Rattle.statements.specs.Calls.{Move, calls, asks-earliest, asks-status, Answer, replied, stated}
 
 -- room for ten records
 abbrev pub blank : List ℕ

@@ -13,7 +13,7 @@ use Rattle.timing.specs.Earliest.{Standing, AsksFor, Legal, NamedGap, floor, ea
 use Rattle.history.specs.Records.{Current, closed, session}
 use Rattle.history.specs.Answers.{Line, _gives_, firstOf, openLines, placeLines, stampLines, offerLines, depthLines, roomLines, Reply}
 use Rattle.history.specs.Struck.{open-session, offer, take-back}
-use Rattle.demands.specs.Outcomes.{Move, calls, asks-earliest, asks-status, asks-stretch}
+use Rattle.statements.specs.Calls.{Move, calls, asks-earliest, asks-status, asks-stretch}
 
 -- a number is given by the line that holds where none before it does; 0 where none holds
 pub data Given : List Line → ℕ → Type 0 where

@@ -10,7 +10,8 @@ use Rattle.history.specs.Struck.{Call, open-session, offer, take-back}
 use Rattle.session.specs.declared.state.Session.{Session}
 use Rattle.session.specs.State.{freshState}
 use Rattle.journal.specs.Bytes.{recordSize, bytesOf}
-use Rattle.journal.specs.Restore.{putAt, Part, partOf}
+use Rattle.journal.specs.Restore.{putAt, Part}
+use Rattle.statements.specs.Calls.{Seen, partIn}
 
 -- the numbers that document 01 gives each call, in its order, and 0
 unfoldable pub ownNumbers : Call → List ℕ
@@ -46,10 +47,10 @@ pub record StatusPlainly (status : Status) : Type 0 where
   pub own : List·Memᴰ (status .number) (1 ∷ 0 ∷ [])
   pub zeros : status .number ≢ 0 → status ≡ record { number = 1; client = 0; opening = 0; survivors = 0; depth = 0; last = 0; records = 0 }
 
--- the stretch is a part of the lent bytes
-pub record StretchPlainly (lent : List ℕ) (place : Part) (part : List ℕ) : Type 0 where
-  pub inside : place .start + place .size ≤ length lent
-  pub itself : part ≡ partOf place lent
+-- the stretch is a part of the lent bytes, that part itself and not a copy
+pub record StretchPlainly (lent : Seen) (place : Part) (part : Seen) : Type 0 where
+  pub inside : place .start + place .size ≤ length (lent .bytes)
+  pub itself : part ≡ partIn place lent
 
 -- a refused restore hands back a state with no session; only 11 names a record
 pub record RestorePlainly (number at : ℕ) (next : Session) : Type 0 where

@@ -1,3 +1,4 @@
 pub mod Exact
 pub mod Rep
 pub mod Statements
+pub mod Calls
