@@ -5,3 +5,4 @@ pub mod MeansLaws
 pub mod RestoreLaws
 pub mod RestoreMeans
 pub mod StretchLaws
+pub mod Ties
