@@ -1,5 +1,6 @@
 -- Nothing is left open: any two outcomes that a statement allows are the same, and states that stand for one history are alike.
 use mathlib.Core.Path.{_≡_, refl, sym, _∙_, ap}
+use mathlib.Core.Bool.{Bool}
 use mathlib.Core.List.{List, _∷_}
 use Prim.Native.Nat.{ℕ}
 use lib.ListN.{length}
@@ -12,6 +13,8 @@ use Rattle.statements.specs.Exact.{Left}
 use Rattle.statements.specs.Rep.{Rep}
 use Rattle.statements.specs.Statements.{Restores}
 use Rattle.statements.specs.Calls.{Outcome, Move, Answer, replied, stated, handed, Does, by-call, by-earliest, by-status, by-stretch, Seen, HandsStretch}
+use Rattle.listing.specs.declared.records.Listed.{Listed}
+use Rattle.listing.specs.Run.{ListsPart}
 use Rattle.demands.specs.Reached.{Reached}
 use Rattle.demands.specs.Alike.{Same, Had, ends, goes, Alike}
 use Rattle.demands.proofs.MoveLaws.{verdictOn, does-on}
@@ -44,6 +47,12 @@ pub restore-determined : {bytes : List ℕ} {number number′ at at′ : ℕ} {n
     → (number ≡ number′) × (at ≡ at′) × (next ≡ next′)
 restore-determined p q =
     (p .exact .answer ∙ sym (q .exact .answer), p .exact .beside ∙ sym (q .exact .beside), p .exact .state ∙ sym (q .exact .state))
+
+-- a part of a listing, whatever the bytes
+pub list-determined : (part : List ℕ) (last : Bool) (s : Session) (before after after′ : List ℕ) (r r′ : Listed) → ListsPart part last s before after r → ListsPart part last s before after′ r′
+    → (after ≡ after′) × (r .written ≡ r′ .written) × (r .session ≡ r′ .session) × (r .stopped ≡ r′ .stopped)
+list-determined part last s before after after′ r r′ p q =
+    (p .bytes ∙ sym (q .bytes), p .written ∙ sym (q .written), p .session ∙ sym (q .session), p .stopped ∙ sym (q .stopped))
 
 -- two states that stand for one history can't be told apart by any later moves
 pub alike : (h : History) (s t : Session) → Rep s h → Rep t h → Alike s t

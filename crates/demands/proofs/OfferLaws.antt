@@ -15,15 +15,15 @@ use Rattle.timing.specs.Kinds.{kindOf}
 use Rattle.timing.specs.Earliest.{Stamped, Standing, Ask, LaterThanLast, Legal, cycleAfter, floor, earliest}
 use Rattle.timing.proofs.Legal.{legal-from, named-gap}
 use Rattle.history.specs.Records.{Record, opening, command, takeBack, History, Current, closed, session, standing}
-use Rattle.history.specs.Answers.{Line, _gives_, firstOf, roomOf, openLines, placeLines, stampLines, afterLines, depthLines, roomLines, offerLines, offerReply, earliestReply, Reply, plain, named, refused, accepted, replyOf, offerCase, earliestCase, offerOn}
+use Rattle.history.specs.Answers.{Line, _gives_, firstOf, roomOf, openLines, placeLines, stampLines, afterLines, depthLines, roomLines, offerLines, offerReply, earliestReply, Reply, plain, named, refused, accepted, replyOf, offerCase, earliestCase, offerOn, earliestOn}
 use Rattle.history.specs.Struck.{open-session, offer, take-back, current, recordsIn}
 use Rattle.history.proofs.AnswerLaws.{first-on}
 use Rattle.session.specs.declared.state.Session.{Session}
 use Rattle.statements.specs.Rep.{Rep}
-use Rattle.statements.specs.Calls.{Outcome, Move, calls, asks-earliest, asks-status, asks-stretch, Answer, replied, stated, handed, Does}
+use Rattle.statements.specs.Calls.{TellsEarliest, Outcome, Move, calls, asks-earliest, asks-status, asks-stretch, Answer, replied, stated, handed, Does}
 use Rattle.demands.specs.Runs.{Event, numberIn, lasting, Run, answerAt}
 use Rattle.demands.specs.Reached.{Reached}
-use Rattle.demands.specs.Offers.{Given, none, this, a-later, kindLines, linesOf, Ready, AsksMore, OfferMeans}
+use Rattle.demands.specs.Offers.{Given, none, this, a-later, kindLines, linesOf, Ready, AsksMore, OfferMeans, Askable, EarliestMeans}
 use Rattle.demands.proofs.ReachedLaws.{reached-stands}
 use Rattle.demands.proofs.RanLaws.{demand-three}
 
@@ -146,6 +146,34 @@ pub demand-two-run : {room : ℕ} {es : List Event} {s next : Session} {first j 
     → (c : Command) (st : Standing) → c .rank ≡ rank → c .bank ≡ bank → Ready (current (lasting es)) kind c t st → OfferMeans room (recordsIn (lasting es)) st c t reply
 demand-two-run {room} {es} kind rank bank t reply run d c st r b ready =
     offer-rightly room (recordsIn (lasting es)) (current (lasting es)) kind c t st ready rank bank reply r b (ap (replyIn reply) (demand-three run d))
+
+-- The earliest question means what an offer's 7 means
+module _ (now : Current) (kind : ℕ) (c : Command) (st : Standing) (able : Askable now kind c st) where
+  found : EarliestMeans st c (earliestCase now (kindOf kind) (c .rank) (c .bank))
+  found =
+      rw (able .stands, able .known, able .placed)
+      (record { answered = refl; legal = legal-from st c (earliest st c .cycle) .1 (omega arith); smallest = λ u l. legal-from st c u .0 l; gap = named-gap st c })
+
+  pub earliest-rightly : (rank bank : ℕ) (reply : Reply) → c .rank ≡ rank → c .bank ≡ bank → reply ≡ earliestCase now (kindOf kind) rank bank → EarliestMeans st c reply
+  earliest-rightly rank bank reply r b is =
+      subst (EarliestMeans st c)
+      (ap (λ (x : ℕ). earliestCase now (kindOf kind) x (c .bank)) r ∙ ap (λ (x : ℕ). earliestCase now (kindOf kind) rank x) b ∙ sym is)
+      found
+
+-- at every state that any calls, restores and listings reach
+pub earliest-question : {s : Session} → Reached s → (kind rank bank : ℕ) (reply : Reply) → TellsEarliest s kind rank bank reply
+    → (h : History) × Rep s h × ((c : Command) (st : Standing) → c .rank ≡ rank → c .bank ≡ bank → Askable (standing h) kind c st → EarliestMeans st c reply)
+unfolding earliestOn
+earliest-question before kind rank bank reply told =
+    let w = reached-stands before in
+    (w .0, w .1, λ c st r b able. earliest-rightly (standing (w .0)) kind c st able rank bank reply r b (told .answer (w .0) (w .1)))
+
+-- and after any run, over what the strike-out leaves of its calls
+pub earliest-question-run : {room : ℕ} {es : List Event} {s next : Session} {first j after : List ℕ} (kind rank bank : ℕ) (reply : Reply)
+    → Run room es s first j → Does (asks-earliest kind rank bank) s j (replied reply) next after
+    → (c : Command) (st : Standing) → c .rank ≡ rank → c .bank ≡ bank → Askable (current (lasting es)) kind c st → EarliestMeans st c reply
+earliest-question-run {es = es} kind rank bank reply run d c st r b able =
+    earliest-rightly (current (lasting es)) kind c st able rank bank reply r b (ap (replyIn reply) (demand-three run d))
 
 -- the number of every answer is that of its first line
 abbrev Numbers : ℕ → ℕ → Current → Move → List ℕ → Type 0

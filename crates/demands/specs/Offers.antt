@@ -1,4 +1,4 @@
--- Demand 2: which line gives a move's number, and what an offer's answer means, in the words of the rule.
+-- Demand 2: which line gives a move's number, and what the answer to an offer and to an earliest question means, in the words of the rule.
 use mathlib.Core.Path.{_≡_}
 use mathlib.Core.Logic.{_↔_}
 use mathlib.Core.Bool.{Bool, true, false}
@@ -67,3 +67,16 @@ pub record OfferMeans (room count : ℕ) (st : Standing) (c : Command) (t : ℕ)
   pub gap : reply .number ≡ 7 → NamedGap st c (record { cycle = reply .cycle; gap = reply .gap })
   pub accepted : (reply .number ≡ 0) ↔ (Legal st c t × (count < room))
   pub full : (reply .number ≡ 9) ↔ (Legal st c t × (room ≤ count))
+
+-- lines 1 to 4 don't hold for this command
+pub record Askable (now : Current) (kind : ℕ) (c : Command) (st : Standing) : Type 0 where
+  pub stands : now ≡ session st
+  pub known : kindOf kind ≡ Kind (c .kind)
+  pub placed : firstOf (placeLines (st .settings .opening) c) ≡ 0
+
+-- with lines 1 to 4 passed: what an offer's 7 names
+pub record EarliestMeans (st : Standing) (c : Command) (reply : Reply) : Type 0 where
+  pub answered : reply .number ≡ 0
+  pub legal : Legal st c (reply .cycle)
+  pub smallest : (u : ℕ) → Legal st c u → reply .cycle ≤ u
+  pub gap : NamedGap st c (record { cycle = reply .cycle; gap = reply .gap })

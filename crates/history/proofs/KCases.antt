@@ -4,8 +4,8 @@ use Rattle.timing.specs.Rules.{rules, covers, matching}
 use Rattle.timing.specs.Earliest.{reach, floor, pairAsks, acts, fourAsks, asks, latest, earliest}
 use Rattle.history.specs.Records.{standing}
 use Rattle.history.specs.Answers.{firstOf, offerOn, earliestOn, fits, follows, fine}
-use Rattle.history.specs.Cases.{kCases, allRight}
+use Rattle.history.specs.Cases.{kLasts, kCases, allRight}
 
 pub k-cases : T (allRight kCases)
-unfolding rules covers matching reach floor pairAsks acts fourAsks asks latest earliest standing firstOf offerOn earliestOn fits follows fine kCases allRight
+unfolding rules covers matching reach floor pairAsks acts fourAsks asks latest earliest standing firstOf offerOn earliestOn fits follows fine kLasts kCases allRight
 k-cases = tt

@@ -1,7 +1,7 @@
 -- The cases checked by hand, K1 to K13: settings, the records that stand, a question, and the answer that it must get.
 use mathlib.Core.Bool.{Bool, true, _&&_}
 use mathlib.Core.List.{List, [], _∷_, _++_, map, reverse}
-use Prim.Native.Nat.{ℕ, _-_}
+use Prim.Native.Nat.{ℕ, _+_, _-_, _%_}
 use lib.Dec.{eqb}
 use lib.ListN.{set}
 use Rattle.timing.specs.declared.clocks.DramCycles.{DramCycles}
@@ -68,16 +68,29 @@ kFirst =
     case short (at Act 0 0 ∷ []) (earliest Act 0) (reply 0 4 1) ∷
     []
 
--- K13: any command at the last cycle, then a PREPB that no gap holds back, asked and offered
-abbrev pub kLast : CommandKind → List Case
-kLast kind =
+-- K13: any command at the last cycle, then a PREPB that no gap holds back, of the next bank, asked and offered
+abbrev pub kLast : CommandKind → ℕ → List Case
+kLast kind bank =
     let a = settings 4 0 gapsA in
-    case a (at kind 0 1099511627775 ∷ []) (earliest Prepb 1) (reply 0 1099511627776 0) ∷
-    case a (at kind 0 1099511627775 ∷ []) (offer Prepb 1 1099511627776) (reply 5 0 0) ∷
+    let other = (bank + 1) % 16 in
+    case a (at kind bank 1099511627775 ∷ []) (earliest Prepb other) (reply 0 1099511627776 0) ∷
+    case a (at kind bank 1099511627775 ∷ []) (offer Prepb other 1099511627776) (reply 5 0 0) ∷
     []
 
+unfoldable pub kLasts : CommandKind → List ℕ → List Case
+kLasts kind [] = []
+kLasts kind (bank ∷ banks) = kLast kind bank ++ kLasts kind banks
+
+-- every kind, and every bank that it may name: PREAB and REFAB name bank 0
+abbrev pub sixteen : List ℕ
+sixteen = 0 ∷ 1 ∷ 2 ∷ 3 ∷ 4 ∷ 5 ∷ 6 ∷ 7 ∷ 8 ∷ 9 ∷ 10 ∷ 11 ∷ 12 ∷ 13 ∷ 14 ∷ 15 ∷ []
+
+abbrev pub kThirteen : List Case
+kThirteen =
+    kLasts Act sixteen ++ kLasts Rd sixteen ++ kLasts Wr sixteen ++ kLasts Prepb sixteen ++ kLasts Preab (0 ∷ []) ++ kLasts Refab (0 ∷ []) ++ kLasts Refpb sixteen
+
 unfoldable pub kCases : List Case
-kCases = kFirst ++ kLast Act ++ kLast Rd ++ kLast Wr ++ kLast Prepb ++ kLast Preab ++ kLast Refab ++ kLast Refpb
+kCases = kFirst ++ kThirteen
 
 abbrev pub answered : History → Question → Reply
 answered h (earliest k bank) = earliestOn h (codeOf k) 0 bank
