@@ -1,15 +1,20 @@
-/* Stands between a program and the C library: writes down each call that touches a file, and lets one of them fail.
+/* Stands between a program and the C library: writes down each call that touches a file, and lets calls fail. What the C library does
+ * within itself, as printf and fgets, it does not see.
  *
  * SHIM_LOG   the file that the calls are appended to, one to a line:
- *                open PATH RESULT
+ *                open RESULT MADE PATH
  *                read|pread|write|pwrite|fsync|fdatasync|ftruncate FD COUNT OFFSET RESULT HEX
- *            HEX are the bytes written, and a dash where there are none.
- * SHIM_PLAN  `CALL N errno NUMBER`: the N-th call of this name does nothing and fails with this number.
- *            `CALL N short BYTES`: it moves only so many bytes, and answers so.
- *            `CALL N kill BYTES`: it moves so many bytes, and the process is killed.
+ *            MADE is `made` if the file was not there before, else a dash. HEX are the bytes written, and a dash where there are none.
+ * SHIM_PLAN  one plan or several, separated by `;`. Each counts the calls of its own name from 1; the name `any` counts all of the
+ *            calls above together.
+ *                CALL N errno NUMBER    the N-th call is not made, and fails with this number
+ *                CALL N short BYTES     it moves only so many bytes, and answers so
+ *                CALL N kill BYTES      it moves only so many bytes, and the process is killed; an open, a sync or a cut is not made then,
+ *                                       and not written down
  */
 #define _GNU_SOURCE
-#include <dlfcn.h>
+/* Headers that guard these functions would define them. */
+#undef _FORTIFY_SOURCE
 #include <errno.h>
 #include <fcntl.h>
 #include <signal.h>
@@ -17,80 +22,59 @@
 #include <stdio.h>
 #include <stdlib.h>
 #include <string.h>
+#include <sys/syscall.h>
 #include <sys/types.h>
 #include <unistd.h>
 
-static int log_fd = -1;
-static char plan_call[16], plan_action[8];
-static long plan_turn, plan_number;
+struct plan {
+    char call[16], action[8];
+    long turn, number, seen;
+};
 
-static ssize_t (*real_write)(int, const void *, size_t);
-static int (*real_open)(const char *, int, ...);
+static int log_fd = -1, plan_count;
+static struct plan plans[32];
 
-static void *real(const char *name) {
-    void *found = dlsym(RTLD_NEXT, name);
-    if (!found) {
-        _exit(99);
+/* Calls of the shim's own go to the system, and not through the functions below. */
+__attribute__((constructor)) static void begin(void) {
+    const char *path = getenv("SHIM_LOG"), *text = getenv("SHIM_PLAN");
+    if (path) {
+        int fd = (int)syscall(SYS_openat, AT_FDCWD, path, O_WRONLY | O_CREAT | O_APPEND, 0666);
+        log_fd = fcntl(fd, F_DUPFD_CLOEXEC, 200);
+        close(fd);
+    }
+    while (text) {
+        struct plan *plan = &plans[plan_count++];
+        if (plan_count > 32 || sscanf(text, "%15s %ld %7s %ld", plan->call, &plan->turn, plan->action, &plan->number) != 4) {
+            _exit(98);
+        }
+        text = strchr(text, ';');
+        text = text ? text + 1 : NULL;
+    }
+}
+
+/* The plan for this call, if there is one. Every plan counts the calls of its name. */
+static const struct plan *planned(const char *name) {
+    const struct plan *found = NULL;
+    for (int i = 0; i < plan_count; i++) {
+        struct plan *plan = &plans[i];
+        int counts = strcmp(plan->call, name) == 0 || strcmp(plan->call, "any") == 0;
+        if (counts && ++plan->seen == plan->turn && !found) {
+            found = plan;
+        }
     }
     return found;
 }
 
-__attribute__((constructor)) static void begin(void) {
-    const char *path = getenv("SHIM_LOG"), *plan = getenv("SHIM_PLAN");
-    *(void **)&real_write = real("write");
-    *(void **)&real_open = real("open");
-    if (path) {
-        int fd = real_open(path, O_WRONLY | O_CREAT | O_APPEND, 0666);
-        log_fd = fcntl(fd, F_DUPFD_CLOEXEC, 200);
-        close(fd);
-    }
-    if (plan && sscanf(plan, "%15s %ld %7s %ld", plan_call, &plan_turn, plan_action, &plan_number) != 4) {
-        _exit(98);
-    }
-}
-
-static void note(const char *text, size_t count) {
-    if (log_fd >= 0 && real_write(log_fd, text, count) != (ssize_t)count) {
-        _exit(97);
-    }
-}
-
-static void note_call(const char *name, int fd, size_t count, long offset, long result, const void *bytes) {
-    static char line[300000];
-    int saved = errno;
-    int at = snprintf(line, 200, "%s %d %zu %ld %ld ", name, fd, count, offset, result);
-    const unsigned char *from = bytes;
-    if (!from || result <= 0) {
-        line[at++] = '-';
-    } else {
-        for (long i = 0; i < result && i < 140000; i++) {
-            line[at++] = "0123456789abcdef"[from[i] >> 4];
-            line[at++] = "0123456789abcdef"[from[i] & 15];
-        }
-    }
-    line[at++] = '\n';
-    if (fd != log_fd) {
-        note(line, (size_t)at);
-    }
-    errno = saved;
-}
-
-/* Whether the plan is about this call. Counts the calls of its name. */
-static int planned(const char *name) {
-    static long turn;
-    return strcmp(name, plan_call) == 0 && ++turn == plan_turn;
-}
-
-static int fails(void) {
-    if (strcmp(plan_action, "errno") == 0) {
-        errno = (int)plan_number;
+static int fails(const struct plan *plan) {
+    if (plan && strcmp(plan->action, "errno") == 0) {
+        errno = (int)plan->number;
         return 1;
     }
     return 0;
 }
 
-static void killed(void) {
-    if (strcmp(plan_action, "kill") == 0) {
+static void end_if_killed(const struct plan *plan) {
+    if (plan && strcmp(plan->action, "kill") == 0) {
         kill(getpid(), SIGKILL);
         for (;;) {
             pause();
@@ -98,148 +82,130 @@ static void killed(void) {
     }
 }
 
-static int opened(const char *name, const char *path, int flags, mode_t mode) {
-    char line[4200];
-    int result, saved;
-    if (planned("open") && fails()) {
-        result = -1;
-    } else {
-        int (*next)(const char *, int, ...);
-        *(void **)&next = real(name);
-        result = next(path, flags, mode);
+static void note(const char *line, size_t count) {
+    if (log_fd >= 0 && syscall(SYS_write, log_fd, line, count) != (long)count) {
+        _exit(97);
     }
-    saved = errno;
-    note(line, (size_t)snprintf(line, sizeof line, "open %.4096s %d\n", path, result));
+}
+
+static void note_call(const char *name, int fd, size_t count, long offset, long result, const unsigned char *bytes) {
+    static char line[300000];
+    int saved = errno;
+    int at = snprintf(line, 200, "%s %d %zu %ld %ld ", name, fd, count, offset, result);
+    if (!bytes || result <= 0) {
+        line[at++] = '-';
+    } else {
+        for (long i = 0; i < result && i < 140000; i++) {
+            line[at++] = "0123456789abcdef"[bytes[i] >> 4];
+            line[at++] = "0123456789abcdef"[bytes[i] & 15];
+        }
+    }
+    line[at++] = '\n';
+    note(line, (size_t)at);
     errno = saved;
+}
+
+/* Where a write began that moved so many bytes; 0 in a stream, which has no places. */
+static off_t place_before(int fd, long result) {
+    int saved = errno;
+    off_t end = lseek(fd, 0, SEEK_CUR);
+    errno = saved;
+    return end < 0 || result < 0 ? 0 : end - result;
+}
+
+/* A call that moves bytes: to the program, or from it. */
+static ssize_t moved(const char *name, long number, int fd, void *to, const void *from, size_t count, off_t offset) {
+    const struct plan *plan = planned(name);
+    long result = -1;
+    if (!fails(plan)) {
+        size_t most = plan && (size_t)plan->number < count ? (size_t)plan->number : count;
+        result = most || !plan ? syscall(number, fd, from ? from : to, most, offset) : 0;
+    }
+    if (number == SYS_write) {
+        offset = place_before(fd, result);
+    }
+    note_call(name, fd, count, offset, result, from);
+    end_if_killed(plan);
     return result;
 }
 
-#define OPEN(NAME)                                     \
-    int NAME(const char *path, int flags, ...) {       \
-        va_list rest;                                  \
-        va_start(rest, flags);                         \
-        mode_t mode = va_arg(rest, mode_t);            \
-        va_end(rest);                                  \
-        return opened(#NAME, path, flags, mode);       \
+/* A call that moves no bytes: a sync, or a cut to a length. */
+static int changed(const char *name, long number, int fd, off_t length) {
+    const struct plan *plan = planned(name);
+    long result = -1;
+    end_if_killed(plan);
+    if (!fails(plan)) {
+        result = syscall(number, fd, length);
+    }
+    note_call(name, fd, 0, length, result, NULL);
+    return (int)result;
+}
+
+static int opened(const char *path, int flags, mode_t mode) {
+    char line[4200];
+    const struct plan *plan = planned("open");
+    int saved = errno;
+    int is_new = (flags & O_CREAT) && access(path, F_OK) != 0;
+    long result = -1;
+    errno = saved;
+    end_if_killed(plan);
+    if (!fails(plan)) {
+        result = syscall(SYS_openat, AT_FDCWD, path, flags, mode);
+    }
+    saved = errno;
+    const char *made = is_new && result >= 0 ? "made" : "-";
+    note(line, (size_t)snprintf(line, sizeof line, "open %ld %s %.4096s\n", result, made, path));
+    errno = saved;
+    return (int)result;
+}
+
+#define OPEN(NAME)                               \
+    int NAME(const char *path, int flags, ...) { \
+        va_list rest;                            \
+        va_start(rest, flags);                   \
+        mode_t mode = va_arg(rest, mode_t);      \
+        va_end(rest);                            \
+        return opened(path, flags, mode);        \
     }
 OPEN(open)
 OPEN(open64)
 
-ssize_t write(int fd, const void *bytes, size_t count) {
-    size_t most = count;
-    int mine = planned("write");
-    if (mine && fails()) {
-        note_call("write", fd, count, 0, -1, NULL);
-        return -1;
-    }
-    if (mine && (size_t)plan_number < count) {
-        most = (size_t)plan_number;
-    }
-    ssize_t result = most ? real_write(fd, bytes, most) : 0;
-    note_call("write", fd, count, 0, result, bytes);
-    if (mine) {
-        killed();
-    }
-    return result;
-}
-
-static ssize_t put(const char *name, int fd, const void *bytes, size_t count, off_t offset) {
-    size_t most = count;
-    int mine = planned("pwrite");
-    ssize_t (*next)(int, const void *, size_t, off_t);
-    *(void **)&next = real(name);
-    if (mine && fails()) {
-        note_call("pwrite", fd, count, offset, -1, NULL);
-        return -1;
-    }
-    if (mine && (size_t)plan_number < count) {
-        most = (size_t)plan_number;
-    }
-    ssize_t result = most ? next(fd, bytes, most, offset) : 0;
-    note_call("pwrite", fd, count, offset, result, bytes);
-    if (mine) {
-        killed();
-    }
-    return result;
-}
-
-ssize_t pwrite(int fd, const void *bytes, size_t count, off_t offset) {
-    return put("pwrite", fd, bytes, count, offset);
-}
-
-ssize_t pwrite64(int fd, const void *bytes, size_t count, off64_t offset) {
-    return put("pwrite64", fd, bytes, count, offset);
-}
-
-static ssize_t got(const char *name, int fd, void *bytes, size_t count, off_t offset) {
-    size_t most = count;
-    int mine = planned("pread");
-    ssize_t (*next)(int, void *, size_t, off_t);
-    *(void **)&next = real(name);
-    if (mine && fails()) {
-        note_call("pread", fd, count, offset, -1, NULL);
-        return -1;
-    }
-    if (mine && (size_t)plan_number < count) {
-        most = (size_t)plan_number;
-    }
-    ssize_t result = next(fd, bytes, most, offset);
-    note_call("pread", fd, count, offset, result, NULL);
-    return result;
+ssize_t read(int fd, void *bytes, size_t count) {
+    return moved("read", SYS_read, fd, bytes, NULL, count, 0);
 }
 
 ssize_t pread(int fd, void *bytes, size_t count, off_t offset) {
-    return got("pread", fd, bytes, count, offset);
+    return moved("pread", SYS_pread64, fd, bytes, NULL, count, offset);
 }
 
 ssize_t pread64(int fd, void *bytes, size_t count, off64_t offset) {
-    return got("pread64", fd, bytes, count, offset);
+    return moved("pread", SYS_pread64, fd, bytes, NULL, count, offset);
 }
 
-ssize_t read(int fd, void *bytes, size_t count) {
-    static ssize_t (*next)(int, void *, size_t);
-    if (!next) {
-        *(void **)&next = real("read");
-    }
-    ssize_t result = next(fd, bytes, count);
-    note_call("read", fd, count, 0, result, NULL);
-    return result;
+ssize_t write(int fd, const void *bytes, size_t count) {
+    return moved("write", SYS_write, fd, NULL, bytes, count, 0);
 }
 
-static int synced(const char *name, int fd) {
-    int result = -1, mine = planned(name);
-    int (*next)(int);
-    *(void **)&next = real(name);
-    if (!mine || !fails()) {
-        if (mine) {
-            killed();
-        }
-        result = next(fd);
-    }
-    note_call(name, fd, 0, 0, result, NULL);
-    return result;
+ssize_t pwrite(int fd, const void *bytes, size_t count, off_t offset) {
+    return moved("pwrite", SYS_pwrite64, fd, NULL, bytes, count, offset);
 }
 
-int fdatasync(int fd) {
-    return synced("fdatasync", fd);
+ssize_t pwrite64(int fd, const void *bytes, size_t count, off64_t offset) {
+    return moved("pwrite", SYS_pwrite64, fd, NULL, bytes, count, offset);
 }
 
 int fsync(int fd) {
-    return synced("fsync", fd);
+    return changed("fsync", SYS_fsync, fd, 0);
 }
 
-static int cut(const char *name, int fd, off_t length) {
-    int (*next)(int, off_t);
-    *(void **)&next = real(name);
-    int result = next(fd, length);
-    note_call("ftruncate", fd, 0, length, result, NULL);
-    return result;
+int fdatasync(int fd) {
+    return changed("fdatasync", SYS_fdatasync, fd, 0);
 }
 
 int ftruncate(int fd, off_t length) {
-    return cut("ftruncate", fd, length);
+    return changed("ftruncate", SYS_ftruncate, fd, length);
 }
 
 int ftruncate64(int fd, off64_t length) {
-    return cut("ftruncate64", fd, length);
+    return changed("ftruncate", SYS_ftruncate, fd, length);
 }

@@ -243,9 +243,24 @@ mod tests {
         assert_eq!(printed(b"back\r"), "?\n");
         assert_eq!(printed(b"back \r\n"), "back 1\n");
         assert_eq!(printed(b"\r\n"), "");
-        assert_eq!(printed(b"\r"), "?\n");
-        assert_eq!(printed(b"back"), "back 1\n");
         assert_eq!(printed(b"\n\nback\n\n"), "back 1\n");
+    }
+
+    /// What stands behind the last newline was cut short, whatever it says.
+    #[test]
+    fn a_last_line_without_newline() {
+        let opening = format!("open 1 1 0 7{}", " 0".repeat(20));
+        for last in ["back", "back\r", "\r", " ", "\t", "# end", "#", &opening] {
+            assert_eq!(printed(last.as_bytes()), "?\n", "{last:?}");
+            let behind = format!("back\n{last}");
+            assert_eq!(printed(behind.as_bytes()), "back 1\n?\n", "{last:?}");
+        }
+        assert_eq!(printed(b""), "");
+        assert_eq!(printed(b"# all\n"), "");
+        let mut console = Console::new();
+        assert_eq!(console.feed(opening.as_bytes()), b"");
+        assert_eq!(console.finish(), b"?\n");
+        assert_eq!(console.feed(b"back\n"), b"back 1\n");
     }
 
     #[test]
@@ -255,13 +270,14 @@ mod tests {
             printed(line.as_bytes())
         };
         assert_eq!(of(4096, "\n"), "back 1\n");
-        assert_eq!(of(4096, ""), "back 1\n");
         assert_eq!(of(4097, "\n"), "?\n");
         assert_eq!(of(4095, "\r\n"), "back 1\n");
         assert_eq!(of(4096, "\r\n"), "?\n");
-        assert_eq!(printed(&[b'#'; 4096]), "");
-        assert_eq!(printed(&[b'#'; 4097]), "?\n");
-        assert_eq!(printed(&[b' '; 4097]), "?\n");
+        for byte in *b"# \t" {
+            let line = |length: usize| [vec![byte; length], vec![b'\n']].concat();
+            assert_eq!(printed(&line(4096)), "");
+            assert_eq!(printed(&line(4097)), "?\n");
+        }
     }
 
     #[test]

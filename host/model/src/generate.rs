@@ -143,6 +143,12 @@ pub const SETTINGS_A: [u16; 20] = [
     60, 8, 18, 42, 8, 8, 6, 20, 7, 30, 30, 25, 40, 18, 21, 2, 280, 140, 90, 32,
 ];
 
+/// Settings A as a request: ratio 4, one rank, mode 0, client 7.
+pub fn opening_a() -> String {
+    let gaps: Vec<String> = SETTINGS_A.iter().map(u16::to_string).collect();
+    format!("open 4 1 0 7 {}", gaps.join(" "))
+}
+
 /// Numbers at the edges of their places, and those that look right once cut
 /// down to 8, 16 or 32 bits.
 const EDGES: [u64; 44] = [
@@ -1733,8 +1739,33 @@ impl Player {
         }
     }
 
+    /// Mostly a line without a newline, which is answered and not played: also one that would be accepted, or ask nothing.
+    fn last_line(&mut self) -> Vec<u8> {
+        let (kind, rank, bank) = self.command();
+        let (earliest, _) = self.earliest((kind, rank, bank));
+        let offer = format!("offer {kind} {rank} {bank} {earliest}").into_bytes();
+        let opening = format!("open 1 2 0 7{}", " 32".repeat(20)).into_bytes();
+        match self.rng.below(12) {
+            0 => b"status\n".to_vec(),
+            1 => b"status\r\n".to_vec(),
+            2 | 3 => self.rng.pick(&[" ", "\t ", "\r", " \r"]).into(),
+            4 | 5 => self.rng.pick(&["# end", "#", " # status", "#\r"]).into(),
+            6 | 7 => offer,
+            8 => opening,
+            // The last gap has lost a digit: of good form, and not what was meant.
+            9 => opening[..opening.len() - 1].to_vec(),
+            10 => [b"#".repeat(LONGEST_LINE), b"back".to_vec()].concat(),
+            _ => {
+                let lines = ["status", "status\r", "back", "ask ACT 0 0", "bytes 0 64"];
+                self.rng.pick(&lines).into()
+            }
+        }
+    }
+
     fn play(&mut self) {
-        let ending = 7.min(self.most);
+        // An act may fill the script; the last line has its place all the same.
+        self.most = self.most.saturating_sub(1);
+        let ending = 6.min(self.most);
         // Moods of long runs end with as many take-backs as there can be.
         let long = matches!(
             self.mood,
@@ -1766,6 +1797,10 @@ impl Player {
             }
             self.act();
         }
+        self.end();
+    }
+
+    fn end(&mut self) {
         self.say("status");
         let end = 64 * self.count();
         self.say(&format!("bytes {} 192", end.saturating_sub(128)));
@@ -1773,21 +1808,9 @@ impl Player {
         self.say("stretch");
         self.restore_at(end);
         self.say("status");
-        // A last line without a newline is answered, and not played.
-        let last = self.rng.pick(&[
-            b"status\n".as_slice(),
-            b"status",
-            b"ask ACT 0 0",
-            b"status\r",
-            b"\r",
-            b"back",
-            b"# end",
-            b" ",
-            b"bytes 0 64",
-            b"status \r",
-            b"status\r\n",
-        ]);
-        self.send(last.to_vec());
+        self.most += 1;
+        let last = self.last_line();
+        self.send(last);
     }
 }
 
@@ -1986,6 +2009,32 @@ mod tests {
             assert_eq!(one.output(), other.output());
             assert_eq!(one.left, other.left);
         }
+    }
+
+    /// Scripts end in every way, and what is cut short would often have been accepted.
+    #[test]
+    fn scripts_end_without_a_newline() {
+        let (mut cut, mut silent, mut opened, mut offered) = (0, 0, 0, 0);
+        for seed in 0..104 {
+            let lines = script(seed, 120).lines;
+            let (last, before) = lines.split_last().unwrap();
+            if last.sent.ends_with(b"\n") {
+                continue;
+            }
+            assert_eq!(last.answer.as_deref(), Some(b"?".as_slice()));
+            let mut console = Console::new();
+            for line in before {
+                console.feed(&line.sent);
+            }
+            let whole = console.feed(&[&last.sent, b"\n".as_slice()].concat());
+            cut += 1;
+            silent += usize::from(whole.is_empty());
+            opened += usize::from(whole.starts_with(b"open 0"));
+            offered += usize::from(whole.starts_with(b"offer 0"));
+        }
+        let counts = [cut, silent, opened, offered];
+        assert!(cut >= 70 && silent >= 20, "{counts:?}");
+        assert!(opened >= 5 && offered >= 5, "{counts:?}");
     }
 
     /// A script that reaches little could not show a fault.

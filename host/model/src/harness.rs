@@ -1,5 +1,7 @@
 //! What the tests of whole programs share: finding them, running them, files.
 
+use crate::file::{printed, sent, steps, FileConsole};
+use crate::generate::Rng;
 use std::io::{Read, Write};
 use std::path::{Path, PathBuf};
 use std::process::{Child, Command, ExitStatus, Stdio};
@@ -10,6 +12,8 @@ use std::{env, fs, thread};
 
 /// A program that takes longer than this for one input is taken to hang.
 pub const LIMIT: Duration = Duration::from_secs(60);
+/// A player at a pipe does not wait longer than this for one answer.
+pub const ANSWER_LIMIT: Duration = Duration::from_secs(10);
 
 /// One test at a time, so that at most a writer and a reader are at work.
 pub fn turn() -> MutexGuard<'static, ()> {
@@ -51,11 +55,18 @@ pub fn list_program() -> PathBuf {
     program("ROSSINHIU_LIST", "list")
 }
 
-pub fn seed() -> u64 {
-    match env::var("ROSSINHIU_SEED") {
-        Ok(text) => text.parse().expect("ROSSINHIU_SEED is no number"),
-        Err(_) => 20_260_000,
+/// A number that the environment may set.
+pub fn number(variable: &str, otherwise: u64) -> u64 {
+    match env::var(variable) {
+        Ok(text) => text
+            .parse()
+            .unwrap_or_else(|_| panic!("{variable} is no number: {text}")),
+        Err(_) => otherwise,
     }
+}
+
+pub fn seed() -> u64 {
+    number("ROSSINHIU_SEED", 20_260_000)
 }
 
 /// A folder of its own, gone at the end.
@@ -82,6 +93,19 @@ impl Drop for Folder {
     }
 }
 
+pub fn assert_file(path: &Path, expected: &[u8], about: &str) {
+    let got = fs::read(path).unwrap_or_else(|e| panic!("{about}: {e}"));
+    if got != expected {
+        let same = got.iter().zip(expected).take_while(|(a, b)| a == b);
+        panic!(
+            "{about}: the file has {} bytes, expected {}; the first {} agree",
+            got.len(),
+            expected.len(),
+            same.count()
+        );
+    }
+}
+
 /// What a run came to.
 pub struct Ran {
     pub out: Vec<u8>,
@@ -96,6 +120,16 @@ impl Ran {
 
     pub fn said(&self) -> String {
         String::from_utf8_lossy(&self.err).into_owned()
+    }
+
+    /// It said one line on standard error, and these words are in it.
+    pub fn told(&self, words: &[&str], about: &str) {
+        let said = self.said();
+        let is_line = said.ends_with('\n') && said.lines().count() == 1;
+        assert!(is_line, "{about}: not one line: {said}");
+        for word in words {
+            assert!(said.contains(word), "{about}: `{word}` is not in: {said}");
+        }
     }
 
     /// No document speaks of exit numbers; a signal or a panic is none of them.
@@ -124,15 +158,28 @@ pub fn spawn(command: &mut Command) -> Child {
         .unwrap_or_else(|error| panic!("cannot start {:?}: {error}", command.get_program()))
 }
 
+/// Runs it with a file or a folder as standard input: what one read can bring does not depend on a sender.
+pub fn run_over(command: &mut Command, input: &Path) -> Ran {
+    let input = fs::File::open(input).unwrap_or_else(|e| panic!("{}: {e}", input.display()));
+    gathered(spawn(command.stdin(input)))
+}
+
 /// Sends the input, and gathers all that is written.
 pub fn run(command: &mut Command, input: &[u8]) -> Ran {
-    let mut child = spawn(command);
+    let mut child = spawn(command.stdin(Stdio::piped()));
     let mut stdin = child.stdin.take().unwrap();
     let input = input.to_vec();
     // A program that ends early reads no more: that is no fault here.
     let sender = thread::spawn(move || {
         let _ = stdin.write_all(&input);
     });
+    let ran = gathered(child);
+    let _ = sender.join();
+    ran
+}
+
+/// All that it writes to its end.
+fn gathered(mut child: Child) -> Ran {
     let mut err = child.stderr.take().unwrap();
     let errors = thread::spawn(move || {
         let mut bytes = Vec::new();
@@ -158,8 +205,18 @@ pub fn run(command: &mut Command, input: &[u8]) -> Ran {
     };
     let out = answers.join().unwrap();
     let err = errors.join().unwrap();
-    let _ = sender.join();
     Ran { out, err, status }
+}
+
+/// Plays lines over the file to the end, and holds all to the model.
+pub fn play_on(program: &Path, path: &Path, rng: &mut Rng, count: usize, about: &str) {
+    let mut model = FileConsole::over(&fs::read(path).unwrap());
+    let steps = steps(rng, &mut model, count);
+    let ran = run(&mut command(program, &[path]), &sent(&steps));
+    ran.ended_by_itself();
+    assert_eq!(ran.text(), printed(&steps), "{about}");
+    assert_eq!(ran.said(), "", "{about}");
+    assert_file(path, &model.file, about);
 }
 
 /// The shim, built once for each test program.
@@ -170,9 +227,8 @@ pub fn shim() -> &'static Path {
         let folder = Folder::new();
         let made = folder.at("shim.so");
         let status = gcc()
-            .args(["-O1", "-Wall", "-Wextra", "-Werror", "-shared", "-fPIC", "-o"])
+            .args("-O1 -Wall -Wextra -Werror -shared -fPIC -o".split(' '))
             .args([made.as_path(), source.as_path()])
-            .arg("-ldl")
             .status()
             .expect("gcc builds the shim");
         assert!(status.success(), "gcc: {status}");
@@ -181,7 +237,7 @@ pub fn shim() -> &'static Path {
     made
 }
 
-/// A program under the shim: what it logs, and the call that fails.
+/// A program under the shim: what it logs, and the plans for calls that go wrong.
 pub fn shimmed(program: &Path, words: &[&Path], log: &Path, plan: &str) -> Command {
     let mut command = command(program, words);
     command.env("LD_PRELOAD", shim());
@@ -193,10 +249,12 @@ pub fn shimmed(program: &Path, words: &[&Path], log: &Path, plan: &str) -> Comma
 }
 
 /// One call that the shim wrote down.
-#[derive(Clone, Debug, PartialEq, Eq)]
+#[derive(Clone, Debug, Default, PartialEq, Eq)]
 pub struct Call {
     pub name: String,
     pub path: String,
+    /// It is an `open`, and the file was not there before it.
+    pub made: bool,
     pub fd: i64,
     pub count: i64,
     pub offset: i64,
@@ -210,28 +268,28 @@ pub fn calls(log: &Path) -> Vec<Call> {
 }
 
 fn call(line: &str) -> Call {
-    let words: Vec<&str> = line.split(' ').collect();
-    let number = |i: usize| words[i].parse::<i64>().unwrap_or_else(|_| panic!("{line}"));
-    if words[0] == "open" {
+    let words: Vec<&str> = line.splitn(4, ' ').collect();
+    let number = |word: &str| word.parse::<i64>().unwrap_or_else(|_| panic!("{line}"));
+    if let ["open", result, made, path] = words[..] {
         return Call {
             name: "open".to_string(),
-            path: words[1].to_string(),
-            fd: number(2),
-            count: 0,
-            offset: 0,
-            result: number(2),
-            bytes: Vec::new(),
+            path: path.to_string(),
+            made: made == "made",
+            fd: number(result),
+            result: number(result),
+            ..Call::default()
         };
     }
+    let words: Vec<&str> = line.split(' ').collect();
     let hex = words[5].trim_start_matches('-');
     let byte = |i: usize| u8::from_str_radix(&hex[2 * i..2 * i + 2], 16).unwrap();
     Call {
         name: words[0].to_string(),
-        path: String::new(),
-        fd: number(1),
-        count: number(2),
-        offset: number(3),
-        result: number(4),
+        fd: number(words[1]),
+        count: number(words[2]),
+        offset: number(words[3]),
+        result: number(words[4]),
         bytes: (0..hex.len() / 2).map(byte).collect(),
+        ..Call::default()
     }
 }

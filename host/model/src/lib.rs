@@ -2,6 +2,7 @@
 //! the console over the model, a maker of scripts, and what runs the programs.
 
 pub mod console;
+pub mod disk;
 pub mod file;
 pub mod generate;
 pub mod harness;

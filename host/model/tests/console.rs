@@ -4,33 +4,21 @@
 //! looked for beside this project, where the product's build puts them. Other
 //! seeds run on request: ROSSINHIU_SEED is the first, ROSSINHIU_SCRIPTS how many.
 
-use rossinhiu_model::harness::{bench, list_program, turn, LIMIT};
 use rossinhiu_model::console::Console;
 use rossinhiu_model::generate::{script, spoil, Mood, Rng, Script, BADS, MOODS};
+use rossinhiu_model::harness::{bench, list_program, number, seed, turn, ANSWER_LIMIT, LIMIT};
 use rossinhiu_model::listing::list;
 use std::io::{BufRead, BufReader, Read, Write};
 use std::path::Path;
 use std::process::{Child, Command, Stdio};
 use std::sync::mpsc::{self, Receiver, Sender};
 use std::time::{Duration, Instant};
-use std::{env, fs, thread};
+use std::{fs, thread};
 
-/// A player at a pipe does not wait longer than this for one answer.
-const ANSWER_LIMIT: Duration = Duration::from_secs(10);
 const LINES: usize = 500;
 
-fn number(variable: &str, otherwise: u64) -> u64 {
-    match env::var(variable) {
-        Ok(text) => text
-            .parse()
-            .unwrap_or_else(|_| panic!("{variable} is no number: {text}")),
-        Err(_) => otherwise,
-    }
-}
-
 fn seeds() -> std::ops::Range<u64> {
-    let first = number("ROSSINHIU_SEED", 20_260_000);
-    first..first + number("ROSSINHIU_SCRIPTS", 300)
+    seed()..seed() + number("ROSSINHIU_SCRIPTS", 300)
 }
 
 // Running.

@@ -1,44 +1,19 @@
-//! `bench FILE` held against the model: the order of its calls, failed calls,
-//! kills, cut files, files that it must leave alone.
+//! `bench FILE` held against the model: the order of its calls, failed writes
+//! and syncs, kills, cut files, a full disk.
 
-use rossinhiu_model::harness::*;
-use rossinhiu_model::console::JOURNAL;
-use rossinhiu_model::file::{steps, FileConsole, Put, Start, Step};
+use rossinhiu_model::file::{answered, printed, puts, sent, steps, FileConsole, Start, Step};
 use rossinhiu_model::generate::{script, Rng, MOODS};
+use rossinhiu_model::harness::*;
 use rossinhiu_model::listing::list;
-use rossinhiu_model::model::{bytes_of, Opening, Record, RECORD};
+use rossinhiu_model::model::RECORD;
 use std::fs;
 use std::io::{BufRead, BufReader, Read, Write};
-use std::os::unix::fs::{MetadataExt, PermissionsExt};
 use std::os::unix::process::{CommandExt, ExitStatusExt};
 use std::path::Path;
-use std::sync::mpsc;
+use std::sync::atomic::{AtomicUsize, Ordering};
+use std::sync::{mpsc, Arc};
 use std::thread;
 use std::time::{Duration, Instant};
-
-/// A player at a pipe does not wait longer than this for one answer.
-const ANSWER_LIMIT: Duration = Duration::from_secs(10);
-
-const OPEN_A: &str = "open 4 1 0 7 60 8 18 42 8 8 6 20 7 30 30 25 40 18 21 2 280 140 90 32";
-
-fn sent(steps: &[Step]) -> Vec<u8> {
-    let lines: Vec<String> = steps.iter().map(|s| format!("{}\n", s.sent)).collect();
-    lines.concat().into_bytes()
-}
-
-/// What is printed for these steps, the first line of the start before them.
-fn printed(steps: &[Step]) -> String {
-    let mut text = "restore 0 0\n".to_string();
-    for answer in steps.iter().filter_map(|s| s.answer.as_ref()) {
-        text.push_str(answer);
-        text.push('\n');
-    }
-    text
-}
-
-fn puts(steps: &[Step]) -> Vec<&Put> {
-    steps.iter().filter_map(|s| s.put.as_ref()).collect()
-}
 
 /// The steps before the one that writes the n-th record, counted from 1.
 fn before_put(steps: &[Step], n: usize) -> usize {
@@ -46,28 +21,9 @@ fn before_put(steps: &[Step], n: usize) -> usize {
     places.map(|(i, _)| i).nth(n - 1).unwrap()
 }
 
-fn assert_file(path: &Path, expected: &[u8], about: &str) {
-    let got = fs::read(path).unwrap_or_else(|e| panic!("{about}: {e}"));
-    if got != expected {
-        let same = got.iter().zip(expected).take_while(|(a, b)| a == b);
-        panic!(
-            "{about}: the file has {} bytes, expected {}; the first {} agree",
-            got.len(),
-            expected.len(),
-            same.count()
-        );
-    }
-}
-
-/// Plays lines over the file to the end, and holds all to the model.
-fn play_on(program: &Path, path: &Path, rng: &mut Rng, count: usize, about: &str) {
-    let mut model = FileConsole::over(&fs::read(path).unwrap());
-    let steps = steps(rng, &mut model, count);
-    let ran = run(&mut command(program, &[path]), &sent(&steps));
-    ran.ended_by_itself();
-    assert_eq!(ran.text(), printed(&steps), "{about}");
-    assert_eq!(ran.said(), "", "{about}");
-    assert_file(path, &model.file, about);
+/// Bytes of a record that was cut off.
+fn loose(count: usize) -> Vec<u8> {
+    [vec![1], vec![9; 63]].concat()[..count].to_vec()
 }
 
 // The text language.
@@ -81,18 +37,10 @@ fn scripts_in_a_file_are_answered_as_the_model_does() {
         let path = folder.at(&format!("{seed}"));
         let script = script(seed, 400);
         let mut model = FileConsole::over(b"");
-        let mut expected = b"restore 0 0\n".to_vec();
-        for line in &script.lines {
-            let front = line.sent.strip_suffix(b"\n");
-            let (answer, _) = model.line(front.unwrap_or(&line.sent), front.is_some());
-            if let Some(answer) = answer {
-                expected.extend_from_slice(answer.as_bytes());
-                expected.push(b'\n');
-            }
-        }
+        let expected = format!("restore 0 0\n{}", model.play(&script.input()));
         let ran = run(&mut command(&bench, &[&path]), &script.input());
         ran.ended_by_itself();
-        assert!(ran.out == expected, "seed {seed}, {:?}", script.mood);
+        assert!(ran.text() == expected, "seed {seed}, {:?}", script.mood);
         assert_eq!(ran.said(), "");
         assert_file(&path, &model.file, &format!("seed {seed}"));
     }
@@ -242,13 +190,11 @@ fn assert_broken(
     } else {
         ran.ended_by_itself();
         assert_eq!(ran.text(), expected, "{plan}");
-        let said = ran.said();
-        assert!(said.ends_with('\n') && said.lines().count() == 1, "{said}");
         let advice = match plan.starts_with("pwrite") {
             true => "room",
             false => "start with the copy",
         };
-        assert!(said.contains(advice), "{plan}: {said}");
+        ran.told(&[advice], plan);
     }
     let mut file = base.to_vec();
     for put in &puts(steps)[..n - 1] {
@@ -265,8 +211,8 @@ fn a_failed_write_has_no_answer() {
     let _turn = turn();
     let (bench, folder) = (bench(), Folder::new());
     let mut rng = Rng::new(seed() + 3);
-    for loose in [0, 40] {
-        let mut model = FileConsole::over(&vec![9; loose]);
+    for count in [0, 40] {
+        let mut model = FileConsole::over(&loose(count));
         let base = model.file.clone();
         let steps = steps(&mut rng, &mut model, 120);
         let most = puts(&steps).len().min(24);
@@ -282,7 +228,8 @@ fn a_failed_write_has_no_answer() {
                 let plan = format!("pwrite {n} errno {number}");
                 assert_broken(about, given, (&plan, n, 0), false);
             }
-            let plan = format!("fdatasync {n} errno 5");
+            // The first is the start's.
+            let plan = format!("fdatasync {} errno 5", n + 1);
             assert_broken(about, given, (&plan, n, RECORD), false);
         }
     }
@@ -294,7 +241,7 @@ fn a_kill_at_each_call() {
     let _turn = turn();
     let (bench, folder) = (bench(), Folder::new());
     let mut rng = Rng::new(seed() + 4);
-    let mut model = FileConsole::over(&[7; 13]);
+    let mut model = FileConsole::over(&loose(13));
     let base = model.file.clone();
     let steps = steps(&mut rng, &mut model, 100);
     for n in 1..=puts(&steps).len().min(16) {
@@ -304,46 +251,72 @@ fn a_kill_at_each_call() {
             let plan = format!("pwrite {n} kill {kept}");
             assert_broken(about, given, (&plan, n, kept), true);
         }
-        let plan = format!("fdatasync {n} kill 0");
+        let plan = format!("fdatasync {} kill 0", n + 1);
         assert_broken(about, given, (&plan, n, RECORD), true);
     }
 }
 
 // Kills at random moments.
 
-/// Starts the program over the file, sends the lines in pieces, and kills it
-/// once the file has a length, and a while after. What was printed.
-fn kill_at(program: &Path, path: &Path, pieces: Vec<Vec<u8>>, length: u64, wait: u64) -> Vec<u8> {
-    let mut child = spawn(&mut command(program, &[path]));
-    let mut input = child.stdin.take().unwrap();
-    let sender = thread::spawn(move || {
-        for piece in pieces {
-            if input.write_all(&piece).is_err() {
-                break;
-            }
+/// Sends the lines in pieces; a patient sender sees an answer between two pieces, where there is one.
+fn send_pieces(input: &mut impl Write, pieces: &[Vec<u8>], patient: bool, out: &AtomicUsize) {
+    let mut seen = 0;
+    for piece in pieces {
+        let wait = Duration::from_micros(if patient { 20_000 } else { 50 });
+        let until = Instant::now() + wait;
+        while Instant::now() < until && (!patient || out.load(Ordering::Relaxed) == seen) {
             thread::sleep(Duration::from_micros(50));
         }
+        seen = out.load(Ordering::Relaxed);
+        if input.write_all(piece).is_err() {
+            break;
+        }
+    }
+}
+
+/// All that is printed, and its length while it comes.
+fn gather(mut output: impl Read, length: &AtomicUsize) -> Vec<u8> {
+    let mut out = Vec::new();
+    let mut piece = [0; 4096];
+    loop {
+        let count = output.read(&mut piece).unwrap();
+        if count == 0 {
+            return out;
+        }
+        out.extend_from_slice(&piece[..count]);
+        length.store(out.len(), Ordering::Relaxed);
+    }
+}
+
+/// Starts the program over the file, sends the pieces, and kills it once the
+/// file has a length, and a while after. What was printed.
+fn kill_at(
+    (program, path): (&Path, &Path),
+    (pieces, patient): (Vec<Vec<u8>>, bool),
+    (length, wait): (u64, Duration),
+) -> String {
+    let mut child = spawn(&mut command(program, &[path]));
+    let (mut input, output) = (child.stdin.take().unwrap(), child.stdout.take().unwrap());
+    let out = Arc::new(AtomicUsize::new(0));
+    let seen = Arc::clone(&out);
+    let sender = thread::spawn(move || {
+        send_pieces(&mut input, &pieces, patient, &seen);
         input
     });
-    let mut output = child.stdout.take().unwrap();
-    let answers = thread::spawn(move || {
-        let mut out = Vec::new();
-        output.read_to_end(&mut out).unwrap();
-        out
-    });
+    let answers = thread::spawn(move || gather(output, &out));
     let until = Instant::now() + LIMIT;
     while fs::metadata(path).unwrap().len() < length {
         assert!(Instant::now() < until, "the file does not grow to {length}");
         thread::yield_now();
     }
-    let end = Instant::now() + Duration::from_micros(wait);
+    let end = Instant::now() + wait;
     while Instant::now() < end {
         thread::yield_now();
     }
     child.kill().unwrap();
     child.wait().unwrap();
     let _ = sender.join().unwrap();
-    answers.join().unwrap()
+    String::from_utf8(answers.join().unwrap()).expect("answers are plain text")
 }
 
 /// The number of records in the file, whose bytes are those of the model after
@@ -369,6 +342,28 @@ fn records_kept(base: &[u8], steps: &[Step], got: &[u8], about: &str) -> usize {
     panic!("{about}: {} bytes that no order of calls leaves", got.len());
 }
 
+/// One run, killed somewhere: its records that were answered, that are in the file, and that were to come in all.
+fn killed(bench: &Path, path: &Path, rng: &mut Rng, about: &str) -> [usize; 3] {
+    let base = fs::read(path).unwrap();
+    let mut model = FileConsole::over(&base);
+    let count = rng.between(30, 300) as usize;
+    let steps = steps(rng, &mut model, count);
+    let puts = puts(&steps);
+    let length = match rng.below(puts.len() as u64 + 1) as usize {
+        0 => 0,
+        n => puts[n - 1].at + RECORD,
+    };
+    let wait = Duration::from_micros(rng.below(300));
+    let (lines, size) = (sent(&steps), rng.pick(&[30, 100, 500, 4000]));
+    let pieces = lines.chunks(size).map(<[u8]>::to_vec).collect();
+    let sending = (pieces, rng.chance(50));
+    let out = kill_at((bench, path), sending, (length as u64, wait));
+    assert!(printed(&steps).starts_with(&out), "{about}: other answers");
+    let file = fs::read(path).unwrap();
+    let kept = records_kept(&base, &steps, &file, about);
+    [answered(&steps, &out), kept, puts.len()]
+}
+
 #[test]
 fn a_hundred_kills() {
     let _turn = turn();
@@ -379,38 +374,15 @@ fn a_hundred_kills() {
     fs::write(&path, b"").unwrap();
     for round in 0..100 {
         let about = format!("kill {round}");
-        let base = fs::read(&path).unwrap();
-        let mut model = FileConsole::over(&base);
-        let count = rng.between(30, 300) as usize;
-        let steps = steps(&mut rng, &mut model, count);
-        let puts = puts(&steps);
-        let length = match rng.below(puts.len() as u64 + 1) as usize {
-            0 => 0,
-            n => puts[n - 1].at + RECORD,
-        };
-        let wait = rng.below(300);
-        let (lines, size) = (sent(&steps), rng.pick(&[30, 100, 500, 4000]));
-        let pieces = lines.chunks(size).map(<[u8]>::to_vec).collect();
-        let out = kill_at(&bench, &path, pieces, length as u64, wait);
-        let expected = printed(&steps).into_bytes();
-        assert!(expected.starts_with(&out), "{about}: other answers");
-        // Of what was answered nothing is lost.
-        let whole = out.iter().filter(|b| **b == b'\n').count();
-        let mut lines = 1;
-        let answered = steps.iter().filter(|s| {
-            lines += usize::from(s.answer.is_some());
-            s.put.is_some() && lines <= whole
-        });
-        let answered = answered.count();
-        let mut file = fs::read(&path).unwrap();
-        let kept = records_kept(&base, &steps, &file, &about);
+        let [answered, kept, all] = killed(&bench, &path, &mut rng, &about);
         assert!(
             answered <= kept,
             "{about}: {answered} answered, {kept} kept"
         );
-        under_way += usize::from(0 < kept && kept < puts.len());
+        under_way += usize::from(0 < kept && kept < all);
         ahead += usize::from(answered < kept);
         spoken += usize::from(0 < answered);
+        let mut file = fs::read(&path).unwrap();
         if rng.chance(60) && file.len() >= RECORD {
             let last = (file.len() / RECORD - 1) * RECORD;
             file.truncate(last + rng.below(RECORD as u64) as usize);
@@ -444,212 +416,6 @@ fn every_cut_restores() {
     for cut in whole.len() - RECORD..=whole.len() {
         fs::write(&path, &whole[..cut]).unwrap();
         play_on(&bench, &path, &mut rng, 12, &format!("cut to {cut}"));
-    }
-}
-
-// Files to leave alone.
-
-/// The program prints this and one line on standard error that holds these
-/// words, and the file keeps every byte and its time.
-fn assert_left_alone(command: &mut std::process::Command, path: &Path, out: &str, words: &[&str]) {
-    let bytes = fs::read(path).ok();
-    let before = fs::metadata(path).unwrap();
-    let ran = run(command, format!("{OPEN_A}\nstatus\n").as_bytes());
-    ran.ended_by_itself();
-    assert_eq!(ran.text(), out);
-    let said = ran.said();
-    assert!(said.ends_with('\n') && said.lines().count() == 1, "{said}");
-    for word in words {
-        assert!(said.contains(word), "`{word}` is not in: {said}");
-    }
-    let after = fs::metadata(path).unwrap();
-    assert_eq!(fs::read(path).ok(), bytes);
-    let stamp = |m: &fs::Metadata| (m.ino(), m.len(), m.mtime(), m.mtime_nsec());
-    assert_eq!(stamp(&before), stamp(&after));
-}
-
-#[test]
-fn a_folder_is_left_alone() {
-    let _turn = turn();
-    let folder = Folder::new();
-    let path = folder.at("folder");
-    fs::create_dir(&path).unwrap();
-    fs::write(path.join("inside"), b"kept").unwrap();
-    let words = ["can't be opened", "no folder", "Is a directory"];
-    assert_left_alone(&mut command(&bench(), &[&path]), &path, "", &words);
-    assert_eq!(fs::read(path.join("inside")).unwrap(), b"kept");
-}
-
-#[test]
-fn a_file_that_may_not_be_written_is_left_alone() {
-    let _turn = turn();
-    let folder = Folder::new();
-    fs::set_permissions(&folder.0, fs::Permissions::from_mode(0o755)).unwrap();
-    let path = folder.at("journal");
-    fs::write(&path, one_opening()).unwrap();
-    fs::set_permissions(&path, fs::Permissions::from_mode(0o444)).unwrap();
-    // Root may write what nobody may, so the program runs as nobody, from where nobody reaches it.
-    let program = folder.at("bench");
-    fs::copy(bench(), &program).unwrap();
-    fs::set_permissions(&program, fs::Permissions::from_mode(0o755)).unwrap();
-    let mut as_nobody = command(&program, &[&path]);
-    let is_root = fs::metadata(&path).unwrap().uid() == 0;
-    if is_root {
-        as_nobody.uid(65534).gid(65534);
-    }
-    let can_start = !is_root || as_nobody.spawn().map(|mut c| c.wait()).is_ok();
-    if can_start {
-        let words = ["can't be opened", "may write", "Permission denied"];
-        assert_left_alone(&mut as_nobody, &path, "", &words);
-    } else {
-        println!("nobody can't be had here: only the read-only file system is tried");
-    }
-    let log = folder.at("log");
-    let mut read_only = shimmed(&bench(), &[&path], &log, "open 1 errno 30");
-    let words = ["can't be opened", "may write", "Read-only file system"];
-    assert_left_alone(&mut read_only, &path, "", &words);
-}
-
-#[test]
-fn a_file_that_is_too_long_is_left_alone() {
-    let _turn = turn();
-    let folder = Folder::new();
-    let path = folder.at("journal");
-    let mut bytes = one_opening().repeat(JOURNAL / RECORD);
-    bytes.push(0);
-    fs::write(&path, &bytes).unwrap();
-    let words = ["longer than 4194304 bytes", "another file"];
-    assert_left_alone(&mut command(&bench(), &[&path]), &path, "", &words);
-}
-
-/// Just as many bytes as the memory has: it restores, and there is no room.
-#[test]
-fn a_full_journal_restores() {
-    let _turn = turn();
-    let folder = Folder::new();
-    let path = folder.at("journal");
-    let bytes = one_opening().repeat(JOURNAL / RECORD);
-    fs::write(&path, &bytes).unwrap();
-    let input = format!("status\n{OPEN_A}\noffer ACT 0 0 0\nback\nask ACT 0 0\n");
-    let ran = run(&mut command(&bench(), &[&path]), input.as_bytes());
-    let expected =
-        "restore 0 0\nstatus 0 7 65535 0 0 0 65536\nopen 9\noffer 9 0 0\nback 8\nask 0 0 0\n";
-    assert_eq!(ran.text(), expected);
-    assert_eq!(ran.said(), "");
-    assert_file(&path, &bytes, "a full journal");
-    // The last record's place is still to be had.
-    fs::write(&path, &bytes[..JOURNAL - 1]).unwrap();
-    let ran = run(&mut command(&bench(), &[&path]), input.as_bytes());
-    let expected =
-        "restore 0 0\nstatus 0 7 65534 0 0 0 65535\nopen 0\noffer 9 0 0\nback 8\nask 0 0 0\n";
-    assert_eq!(ran.text(), expected);
-    assert_eq!(ran.said(), "");
-    assert_file(&path, &bytes, "the last place taken");
-}
-
-fn one_opening() -> Vec<u8> {
-    let opening = Opening {
-        ratio: 4,
-        ranks: 1,
-        mode: 0,
-        client: 7,
-        gaps: rossinhiu_model::generate::SETTINGS_A,
-    };
-    bytes_of(&Record::Opening(opening), 0).to_vec()
-}
-
-#[test]
-fn a_bad_record_is_left_alone() {
-    let _turn = turn();
-    let (bench, folder) = (bench(), Folder::new());
-    let path = folder.at("journal");
-    let mut rng = Rng::new(seed() + 7);
-    let mut model = FileConsole::over(b"");
-    steps(&mut rng, &mut model, 60);
-    let good = model.file;
-    let last = good.len() / RECORD - 1;
-    for at in [0, 1, last / 2, last - 1, last] {
-        // One byte of the record, or zeros, as a length that grew before its bytes came leaves them.
-        for (zeros, loose) in [(false, 0), (false, 5), (true, 0), (true, 5)] {
-            let mut bytes = good.clone();
-            bytes[RECORD * at + 63] ^= 1;
-            if zeros {
-                bytes[RECORD * at..RECORD * (at + 1)].fill(0);
-            }
-            bytes.extend(vec![0; loose]);
-            fs::write(&path, &bytes).unwrap();
-            let out = format!("restore 11 {at}\n");
-            let named = format!("record {at} is bad");
-            let size = format!("bytes: {}\n", RECORD * at);
-            let words = match (at == last, loose) {
-                (true, 0) => [named.as_str(), "keep a copy", &size],
-                _ => [named.as_str(), "damaged", "keep it"],
-            };
-            assert_left_alone(&mut command(&bench, &[&path]), &path, &out, &words);
-        }
-    }
-    // As the message says: cut, and it restores.
-    fs::write(&path, &good[..RECORD * last]).unwrap();
-    play_on(&bench, &path, &mut rng, 30, "after the cut");
-}
-
-#[test]
-fn what_cannot_be_made_read_or_named() {
-    let _turn = turn();
-    let (bench, folder) = (bench(), Folder::new());
-    let missing = folder.at("missing/journal");
-    let ran = run(&mut command(&bench, &[&missing]), b"status\n");
-    assert_eq!(ran.text(), "");
-    assert!(ran.said().contains("can't be made"), "{}", ran.said());
-    assert!(!folder.at("missing").exists());
-
-    let (path, log) = (folder.at("journal"), folder.at("log"));
-    fs::write(&path, one_opening()).unwrap();
-    for plan in ["pread 1 errno 5", "pread 2 errno 5"] {
-        let words = ["can't be read", "copy", "Input/output error"];
-        let mut failing = shimmed(&bench, &[&path], &log, plan);
-        assert_left_alone(&mut failing, &path, "", &words);
-    }
-    // A read that comes short is no end.
-    let ran = run(
-        &mut shimmed(&bench, &[&path], &log, "pread 1 short 10"),
-        b"status\n",
-    );
-    assert_eq!(ran.text(), "restore 0 0\nstatus 0 7 0 0 0 0 1\n");
-
-    // A new file's name is made durable before anything is answered.
-    let new = folder.at("new");
-    let ran = run(
-        &mut shimmed(&bench, &[&new], &log, "fsync 1 errno 5"),
-        b"status\n",
-    );
-    assert_eq!(ran.text(), "");
-    assert!(
-        ran.said().contains("can't be made durable"),
-        "{}",
-        ran.said()
-    );
-    assert_file(&new, b"", "a new file");
-}
-
-/// Where a standard descriptor is closed the file would take its number, and
-/// answers would be written over records.
-#[test]
-fn a_closed_standard_descriptor() {
-    let _turn = turn();
-    let (bench, folder) = (bench(), Folder::new());
-    let path = folder.at("journal");
-    fs::write(&path, one_opening()).unwrap();
-    for closed in ["<&-", ">&-", "2>&-", "<&- >&-", "<&- >&- 2>&-"] {
-        let mut shell = command(Path::new("sh"), &[]);
-        let line = format!("exec \"$0\" \"$1\" {closed}");
-        shell.args(["-c", &line]).args([&bench, &path]);
-        let ran = run(&mut shell, format!("{OPEN_A}\nstatus\n").as_bytes());
-        ran.ended_by_itself();
-        assert_eq!(ran.text(), "", "{closed}");
-        let told = ran.said().contains("Start with all three open");
-        assert_eq!(told, !closed.contains("2>&-"), "{closed}: {}", ran.said());
-        assert_file(&path, &one_opening(), closed);
     }
 }
 
@@ -693,8 +459,7 @@ fn a_full_disk() {
         ran.ended_by_itself();
         let place = before_put(&steps, whole + 1);
         assert_eq!(ran.text(), printed(&steps[..place]));
-        assert_eq!(ran.said().lines().count(), 1, "{}", ran.said());
-        assert!(ran.said().contains("room"), "{}", ran.said());
+        ran.told(&["room"], "a full disk");
         let mut file = Vec::new();
         for put in &puts(&steps)[..whole] {
             put.on(&mut file, RECORD);

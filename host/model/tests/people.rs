@@ -1,10 +1,10 @@
 //! What a person at the laboratory meets: the examples, the recipe for traces
 //! of power tools, the help pages, wrong arguments, a long trace.
 
-use rossinhiu_model::harness::*;
 use rossinhiu_model::console::Console;
 use rossinhiu_model::file::FileConsole;
-use rossinhiu_model::generate::SETTINGS_A;
+use rossinhiu_model::generate::opening_a;
+use rossinhiu_model::harness::*;
 use rossinhiu_model::listing::list;
 use rossinhiu_model::model::NAMES;
 use std::collections::BTreeSet;
@@ -65,8 +65,7 @@ fn examples_print_what_is_written() {
 /// Settings A in the example are document 01's, as the model has them.
 #[test]
 fn settings_a_are_document_01s() {
-    let gaps: Vec<String> = SETTINGS_A.iter().map(u16::to_string).collect();
-    let opening = format!("open 4 1 0 7 {}", gaps.join(" "));
+    let opening = opening_a();
     let trace = text("settings-a.trace");
     assert_eq!(trace.lines().filter(|l| *l == opening).count(), 2);
 }
@@ -81,13 +80,7 @@ fn a_day_with_a_mains_failure() {
         let trace = bytes(&format!("{part}.trace"));
         let expected = text(&format!("{part}.out"));
         let mut model = FileConsole::over(&file);
-        let mut by_model = "restore 0 0\n".to_string();
-        for line in String::from_utf8(trace.clone()).unwrap().lines() {
-            if let Some(answer) = model.line(line.as_bytes(), true).0 {
-                by_model.push_str(&answer);
-                by_model.push('\n');
-            }
-        }
+        let by_model = format!("restore 0 0\n{}", model.play(&trace));
         assert_eq!(by_model, expected, "{part} by the model");
         let ran = run(&mut command(&bench(), &[&path]), &trace);
         assert_eq!(ran.text(), expected, "{part}");
@@ -315,8 +308,7 @@ fn a_million_lines_in_seconds() {
     let mut trace = Vec::new();
     let mut expected = Vec::new();
     let mut console = Console::new();
-    let gaps: Vec<String> = SETTINGS_A.iter().map(u16::to_string).collect();
-    let opening = format!("open 4 1 0 7 {}", gaps.join(" "));
+    let opening = opening_a();
     let mut cycle = 0;
     for i in 0..1_000_000_u64 {
         let bank = i / 4 % 16;

@@ -2,6 +2,7 @@
 //! holds every answer number of every call but a restore's 9.
 
 use rossinhiu_model::console::Console;
+use rossinhiu_model::harness::top;
 use rossinhiu_model::model::LAST_CYCLE;
 use std::collections::BTreeSet;
 use std::fs;
@@ -23,6 +24,15 @@ fn the_expected_output_is_the_models() {
         out == file("stdout"),
         "`model_console < reach/stdin` gives another reach/stdout"
     );
+}
+
+/// The product's own gate plays the same script.
+#[test]
+fn the_programs_own_run_is_this_script() {
+    for name in ["stdin", "stdout"] {
+        let beside = fs::read(top().join("crates/bench").join(name)).unwrap();
+        assert!(beside == file(name), "crates/bench/{name} is another");
+    }
 }
 
 #[test]
