@@ -2,6 +2,8 @@
 //! against the model. And the header: in C and in C++, its sizes and offsets are the library's.
 
 use rossinhiu::ffi;
+use rossinhiu_model::disk::{Disk, Told};
+use rossinhiu_model::generate::Rng;
 use rossinhiu_model::harness::*;
 use rossinhiu_model::model::{Command as Offer, State, NAMES, RECORD};
 use std::fs;
@@ -488,4 +490,57 @@ fn the_headers_layout() {
         FINGERPRINT,
         "another layout than {LAYOUT}: see LAYOUT"
     );
+}
+
+// Power cuts.
+
+/// The player is killed at any of its calls, and the power is cut: what it told of, by what it restored and by what it acted on, is
+/// there at the next start.
+#[test]
+fn nothing_told_is_lost() {
+    let folder = Folder::new();
+    let (journal, log) = (folder.at("journal"), folder.at("log"));
+    let mut rng = Rng::new(seed());
+    for player in players(&folder) {
+        let (mut disk, mut told) = (Disk::new(&journal), Told::default());
+        let mut changed = 0;
+        for round in 0..60 {
+            let before = disk.shown().unwrap_or_default().to_vec();
+            let (number, at, _) = State::restore(&before);
+            if number != 0 {
+                // Nobody was told of the bad record: it is cut off.
+                assert!(told.0.len() <= RECORD * at);
+                disk.cut(RECORD * at);
+                disk.to_file();
+                continue;
+            }
+            let plan = format!(
+                "any {} kill {}",
+                rng.between(1, 40),
+                rng.pick(&[0, 40, 64, 4096])
+            );
+            let about = format!("{}, round {round}, {plan}", player.display());
+            fs::write(&log, b"").unwrap();
+            let words = [journal.as_path(), Path::new("500")];
+            let done = run(
+                &mut shimmed(&player, &words, &log, &plan),
+                SECOND.as_bytes(),
+            );
+            disk.play(&calls(&log));
+            disk.assert_file(&about);
+            if !done.out.is_empty() {
+                let records = before.len() / RECORD + accepted(&done.out);
+                told.add(&disk.shown().unwrap_or_default()[..RECORD * records]);
+            }
+            if rng.chance(50) {
+                let shown = disk.shown().map(<[u8]>::to_vec);
+                disk.lose_power(&mut rng);
+                disk.to_file();
+                changed += usize::from(disk.shown() != shown.as_deref());
+            }
+            told.assert_kept(&disk, &about);
+        }
+        assert!(changed > 0 && !told.0.is_empty());
+        let _ = fs::remove_file(&journal);
+    }
 }
