@@ -2,7 +2,7 @@
 
 use crate::file::{printed, sent, steps, FileConsole};
 use crate::generate::Rng;
-use std::io::{Read, Write};
+use std::io::{ErrorKind, Read, Write};
 use std::path::{Path, PathBuf};
 use std::process::{Child, Command, ExitStatus, Stdio};
 use std::sync::atomic::{AtomicU64, Ordering};
@@ -75,11 +75,17 @@ pub struct Folder(pub PathBuf);
 impl Folder {
     pub fn new() -> Folder {
         static NEXT: AtomicU64 = AtomicU64::new(0);
-        let number = NEXT.fetch_add(1, Ordering::Relaxed);
-        let name = format!("rossinhiu-{}-{number}", std::process::id());
-        let path = env::temp_dir().join(name);
-        fs::create_dir(&path).unwrap_or_else(|e| panic!("{}: {e}", path.display()));
-        Folder(path)
+        loop {
+            let number = NEXT.fetch_add(1, Ordering::Relaxed);
+            let name = format!("rossinhiu-{}-{number}", std::process::id());
+            let path = env::temp_dir().join(name);
+            match fs::create_dir(&path) {
+                Ok(()) => return Folder(path),
+                // Left by a run of the same number that was killed.
+                Err(error) if error.kind() == ErrorKind::AlreadyExists => {}
+                Err(error) => panic!("{}: {error}", path.display()),
+            }
+        }
     }
 
     pub fn at(&self, name: &str) -> PathBuf {
@@ -219,22 +225,21 @@ pub fn play_on(program: &Path, path: &Path, rng: &mut Rng, count: usize, about: 
     assert_file(path, &model.file, about);
 }
 
-/// The shim, built once for each test program.
+/// The shim, built once for each test program, beside it.
 pub fn shim() -> &'static Path {
-    static SHIM: OnceLock<(Folder, PathBuf)> = OnceLock::new();
-    let (_, made) = SHIM.get_or_init(|| {
+    static SHIM: OnceLock<PathBuf> = OnceLock::new();
+    SHIM.get_or_init(|| {
         let source = Path::new(env!("CARGO_MANIFEST_DIR")).join("shim/shim.c");
-        let folder = Folder::new();
-        let made = folder.at("shim.so");
+        let this = env::current_exe().expect("the test program's own path");
+        let made = this.with_extension("shim.so");
         let status = gcc()
             .args("-O1 -Wall -Wextra -Werror -shared -fPIC -o".split(' '))
             .args([made.as_path(), source.as_path()])
             .status()
             .expect("gcc builds the shim");
         assert!(status.success(), "gcc: {status}");
-        (folder, made)
-    });
-    made
+        made
+    })
 }
 
 /// A program under the shim: what it logs, and the plans for calls that go wrong.
