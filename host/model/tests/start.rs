@@ -299,6 +299,17 @@ fn a_file_that_is_no_journal_is_left_alone() {
         fs::write(&path, &bytes).unwrap();
         play_on(&bench, &path, &mut rng, 4, "loose bytes");
     }
+    // A longer text is refused by its record 0, and is most likely no journal either.
+    for text in [text.repeat(2)[..RECORD].to_vec(), text.repeat(40)] {
+        fs::write(&path, text).unwrap();
+        let words = ["begins as no journal does", "name another file"];
+        assert_left_alone(
+            &mut command(&bench, &[&path]),
+            &path,
+            "restore 11 0\n",
+            &words,
+        );
+    }
 }
 
 #[test]
