@@ -2,9 +2,11 @@
 ghost use Prim.Native.Nat.{_<_, _≤_};
 use console::output::put_byte;
 use console::output::put_hex;
-use console::output::put_line;
+use console::say::Answer;
+use console::say::answer_line;
 use libc::STDOUT_FILENO;
 use text::lines::Line;
+use text::lines::put_line;
 
 // What an answer's line or a piece of its bytes may add to the answers gathered.
 const MARGIN: usize = 16384;
@@ -48,7 +50,7 @@ fn with_room(out: &[u8], output: Output) -> Output {
     flush(out, output)
 }
 
-pub fn say_line(out: &mut [u8], output: Output, line: Line) -> Output {
+fn say_line(out: &mut [u8], output: Output, line: Line) -> Output {
     let ready = with_room(out, output);
     let len = put_line(out, ready.len, line);
     Output {
@@ -57,7 +59,7 @@ pub fn say_line(out: &mut [u8], output: Output, line: Line) -> Output {
     }
 }
 
-pub fn say_newline(out: &mut [u8], output: Output) -> Output {
+fn say_newline(out: &mut [u8], output: Output) -> Output {
     let len = put_byte(out, output.len, b'\n');
     Output {
         len,
@@ -95,13 +97,7 @@ fn say_bytes(out: &mut [u8], output: Output, bytes: &[u8]) -> Output {
     said
 }
 
-pub fn say_part(
-    out: &mut [u8],
-    output: Output,
-    journal: &[u8],
-    from: usize,
-    count: usize,
-) -> Output {
+fn say_part(out: &mut [u8], output: Output, journal: &[u8], from: usize, count: usize) -> Output {
     if journal.len() < count {
         return output;
     }
@@ -110,4 +106,15 @@ pub fn say_part(
     }
     let end = from + count;
     say_bytes(out, output, &journal[from..end])
+}
+
+// An answer's line, and behind it the journal's bytes. An empty line is none.
+pub fn say_answer(out: &mut [u8], output: Output, answer: Answer, journal: &[u8]) -> Output {
+    let line = answer_line(answer);
+    if line.len == 0 {
+        return output;
+    }
+    let said = say_line(out, output, line);
+    let shown = say_part(out, said, journal, answer.hex_from, answer.hex_count);
+    say_newline(out, shown)
 }

@@ -1,22 +1,22 @@
 // Plays a trace, written as text, into the checker, and prints each answer.
 ghost use mathlib.Core.Path.{_≡_};
 ghost use lib.ListN.{length};
-use console::say::restore_line;
+use console::say::Answer;
+use console::say::numbered;
 use file::Loaded;
 use file::explain_bad;
 use file::load;
 use file::opened;
 use gather::Output;
 use gather::flush;
-use gather::say_line;
-use gather::say_newline;
+use gather::say_answer;
 use play::run;
 use play::started;
+use requests::forms::Request;
 use requests::words::same;
 use restoring::restore::restore;
 use session::state::Session;
 use stack::is_deep;
-use text::lines::Line;
 
 mod file;
 mod gather;
@@ -31,16 +31,15 @@ fn memory() -> [u8; 4194304]
     [0u8; 4194304]
 }
 
-// One line at once, before anything is read.
-fn is_said(line: Line) -> bool {
+// One answer at once, before anything is read.
+fn is_said(answer: Answer) -> bool {
     let mut out = io::buffer();
     let nothing = Output {
         len: 0,
         failed: false,
     };
-    let said = say_line(&mut out, nothing, line);
-    let ended = say_newline(&mut out, said);
-    let written = flush(&out, ended);
+    let said = say_answer(&mut out, nothing, answer, b"");
+    let written = flush(&out, said);
     !written.failed
 }
 
@@ -52,7 +51,7 @@ fn play_restored(path: &[u8], file: i32, journal: &mut [u8], bytes: usize) {
     let done = restore(&journal[..bytes]);
     let number = done.number;
     let at = done.record;
-    if !is_said(restore_line(number, at)) {
+    if !is_said(numbered(Request::Restore, 2, number, at, 0)) {
         return;
     }
     if number != 0 {

@@ -5,40 +5,36 @@ ghost use lib.ListN.{length};
 use crate::file::is_kept;
 use crate::gather::Output;
 use crate::gather::flush;
-use crate::gather::say_line;
-use crate::gather::say_newline;
-use crate::gather::say_part;
+use crate::gather::say_answer;
 use console::lines::keep;
 use console::lines::line_end;
 use console::respond::respond;
 use input::Got;
 use input::read_some;
 use libc::STDIN_FILENO;
-use requests::in_file::in_file;
-use requests::requests::Parsed;
 use requests::requests::parse_line;
 use session::state::Session;
 
-// `file` is the descriptor of the journal's file, below 0 where the journal is memory alone. Once a record was not kept nothing more
-// is played.
+// `file` is the descriptor of the journal's file, below 0 where the journal is memory alone. `used` is how much of what was read is played,
+// `kept` how much of the line under way stands at the front. `ended`: the input ended, or a record or an answer could not be written.
 pub struct Console {
     pub session: Session,
     pub lent: usize,
     pub output: Output,
     pub file: i32,
-    pub lost: bool,
-}
-
-// The console after the whole lines of what was read, and where the line under way begins.
-struct Played {
-    console: Console,
-    used: usize,
+    pub used: usize,
+    pub kept: usize,
+    pub ended: bool,
 }
 
 fn input_buffer() -> [u8; 69632]
     ensures { λ r. ⌜ 69632 ≡ length r ⌝ }
 {
     [0u8; 69632]
+}
+
+fn number_buffer() -> [u64; 4096] {
+    [0u64; 4096]
 }
 
 // The console at its start: all of the journal is lent.
@@ -51,145 +47,102 @@ pub fn started(session: Session, lent: usize, file: i32) -> Console {
             failed: false,
         },
         file,
-        lost: false,
+        used: 0,
+        kept: 0,
+        ended: false,
     }
-}
-
-fn has_ended(lost: bool, output: Output) -> bool {
-    if lost {
-        return true;
-    }
-    output.failed
-}
-
-// What a line asks, where the journal is.
-fn asked(line: &[u8], ended: bool, file: i32) -> Parsed {
-    let parsed = parse_line(line, ended);
-    if file < 0 {
-        return parsed;
-    }
-    let said = parsed.request;
-    let request = in_file(said);
-    let gaps = parsed.gaps;
-    Parsed { request, gaps }
 }
 
 // The record of an accepted call is kept before its answer is gathered; where it can't be, the call has no answer.
 fn play_line(
-    console: Console,
+    mut console: Console,
     journal: &mut [u8],
     out: &mut [u8],
+    numbers: &mut [u64; 4096],
     line: &[u8],
     ended: bool,
 ) -> Console {
     let session = console.session;
     let file = console.file;
-    let before = console.output;
-    let parsed = asked(line, ended, file);
-    let response = respond(session, journal, console.lent, parsed);
+    let asking = parse_line(line, ended, 0 <= file, numbers);
+    let response = respond(session, journal, console.lent, asking, numbers);
     let next = response.session;
-    let lent = response.lent;
+    let answer = response.answer;
     let kept = is_kept(file, journal, session.records, next.records);
-    let answer = response.line;
-    if !kept || answer.len == 0 {
-        return Console {
-            session: next,
-            lent,
-            output: before,
-            file,
-            lost: !kept,
-        };
+    console.session = next;
+    console.lent = response.lent;
+    if !kept {
+        console.ended = true;
+        return console;
     }
-    let named = say_line(out, before, answer);
-    let from = response.hex_from;
-    let count = response.hex_count;
-    let shown = say_part(out, named, journal, from, count);
-    let output = say_newline(out, shown);
-    Console {
-        session: next,
-        lent,
-        output,
-        file,
-        lost: false,
-    }
+    let before = console.output;
+    let output = say_answer(out, before, answer, journal);
+    console.output = output;
+    console.ended = output.failed;
+    console
 }
 
 // Every whole line of what was read.
-fn play_lines(console: Console, journal: &mut [u8], out: &mut [u8], bytes: &[u8]) -> Played {
+fn play_lines(
+    console: Console,
+    journal: &mut [u8],
+    out: &mut [u8],
+    numbers: &mut [u64; 4096],
+    bytes: &[u8],
+) -> Console {
     let mut after = console;
     let mut at = 0;
     while at < bytes.len() {
         let end = line_end(bytes, at);
-        if bytes.len() <= end || has_ended(after.lost, after.output) {
-            return Played {
-                console: after,
-                used: at,
-            };
+        if bytes.len() <= end || after.ended {
+            after.used = at;
+            return after;
         }
         let behind = end + 1;
-        let next = play_line(after, journal, out, &bytes[at..end], true);
+        let next = play_line(after, journal, out, numbers, &bytes[at..end], true);
         after = next;
         at = behind;
     }
-    Played {
-        console: after,
-        used: at,
-    }
+    after.used = at;
+    after
 }
 
-// The console after one read, how much of a line is under way, and whether the input goes on.
-struct Turn {
-    console: Console,
-    kept: usize,
-    goes_on: bool,
-}
-
-fn flushed(console: Console, out: &[u8]) -> Console {
-    let session = console.session;
-    let output = flush(out, console.output);
-    Console {
-        session,
-        lent: console.lent,
-        output,
-        file: console.file,
-        lost: console.lost,
+fn flushed(mut console: Console, out: &[u8]) -> Console {
+    let before = console.output;
+    let output = flush(out, before);
+    console.output = output;
+    if output.failed {
+        console.ended = true;
     }
+    console
 }
 
 // What stands behind the last newline was cut short: it is answered, and not played.
 fn last_turn(
-    console: Console,
+    mut console: Console,
     journal: &mut [u8],
     out: &mut [u8],
+    numbers: &mut [u64; 4096],
     input: &[u8],
-    kept: usize,
-) -> Turn {
+) -> Console {
+    let kept = console.kept;
     if input.len() < kept {
-        return Turn {
-            console,
-            kept: 0,
-            goes_on: false,
-        };
+        console.ended = true;
+        return console;
     }
-    let played = play_line(console, journal, out, &input[..kept], false);
-    let after = flushed(played, out);
-    Turn {
-        console: after,
-        kept: 0,
-        goes_on: false,
-    }
+    let played = play_line(console, journal, out, numbers, &input[..kept], false);
+    let mut after = flushed(played, out);
+    after.ended = true;
+    after
 }
 
 // A failed read is not the end: the line under way may go on otherwise than it stands here, and has no answer.
-fn broken_off(console: Console) -> Turn {
+fn broken_off(mut console: Console) -> Console {
     os::fail(
         b"bench: standard input can't be read, so it ends here. Send the trace again from the first line that has no answer",
     );
-    Turn {
-        console,
-        kept: 0,
-        goes_on: false,
-    }
+    console.ended = true;
+    console
 }
 
 // One read of what is there, behind the line under way: the end of what was read, or 0 if nothing came.
@@ -217,54 +170,48 @@ fn play_read(
     console: Console,
     journal: &mut [u8],
     out: &mut [u8],
+    numbers: &mut [u64; 4096],
     input: &mut [u8],
     end: usize,
-) -> Turn
+) -> Console
     requires { ⌜ end ≤ length (now input) ⌝ }
 {
-    let played = play_lines(console, journal, out, &input[..end]);
-    let used = played.used;
-    let after = flushed(played.console, out);
-    let left = keep(input, used, end);
-    Turn {
-        console: after,
-        kept: left,
-        goes_on: true,
-    }
+    let played = play_lines(console, journal, out, numbers, &input[..end]);
+    let mut after = flushed(played, out);
+    after.kept = keep(input, after.used, end);
+    after
 }
 
 fn read_on(
     console: Console,
     journal: &mut [u8],
     out: &mut [u8],
+    numbers: &mut [u64; 4096],
     input: &mut [u8],
-    kept: usize,
-) -> Turn {
-    let got = read_behind(input, kept);
+) -> Console {
+    let got = read_behind(input, console.kept);
     if got.failed {
         return broken_off(console);
     }
     if got.count == 0 {
-        return last_turn(console, journal, out, input, kept);
+        return last_turn(console, journal, out, numbers, input);
     }
-    play_read(console, journal, out, input, got.count)
+    play_read(console, journal, out, numbers, input, got.count)
 }
 
 pub fn run(start: Console, journal: &mut [u8]) {
     let mut input = input_buffer();
     let mut out = io::large_buffer();
+    let mut numbers = number_buffer();
     let mut console = start;
-    let mut kept = 0;
     // A proved loop has to end, and nothing says that the input does: a count that no run uses up.
     let mut turns = u64::MAX;
     while turns > 0 {
-        let next = read_on(console, journal, &mut out, &mut input, kept);
-        let after = next.console;
-        if !next.goes_on || has_ended(after.lost, after.output) {
+        let next = read_on(console, journal, &mut out, &mut numbers, &mut input);
+        if next.ended {
             return;
         }
-        console = after;
-        kept = next.kept;
+        console = next;
         turns -= 1;
     }
 }

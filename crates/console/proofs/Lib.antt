@@ -1,4 +1,4 @@
 pub mod Examples
 pub mod OutputLaws
-pub mod RespondLaws
 pub mod SayLaws
+pub mod RespondLaws

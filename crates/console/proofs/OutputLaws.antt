@@ -10,29 +10,10 @@ use lib.ListN.{length, take, drop, getD, set, length-take, length-drop}
 use lib.Seq.{take-all, set-split, append-snoc, getD-take, getD-drop, getD-append-add, length-take-le, paste, paste-suc}
 use borrow.Author.Tests.{leb-true, leb-false, le-leb, lt-leb}
 use Rattle.journal.specs.Restore.{putAt}
-use Rattle.console.specs.Output.{Put, hexDigit, hexText, underWay}
-
-module _ (xs : List ℕ) (at : ℕ) (before : List ℕ) where
-  pub put-none : length before < at + length xs → Put xs at before before at
-  put-none short = let e = lt-leb (at + length xs) (length before) short in record { bytes = rw e; place = rw e }
-
-  pub put-here : (after : List ℕ) (behind : ℕ) → at + length xs ≤ length before → after ≡ putAt before at xs → behind ≡ at + length xs → Put xs at before after behind
-  put-here after behind room is place = let e = le-leb (at + length xs) (length before) room in record { bytes = rw e is; place = rw e place }
-
-  -- a copy of n bytes of s is a put of those bytes
-  pub put-paste : (s after : List ℕ) (n behind : ℕ) → xs ≡ take n s → length xs ≡ n → at + n ≤ length before → after ≡ paste before at s n → behind ≡ at + n → Put xs at before after behind
-  put-paste s after n behind e size room is place = put-here after behind (omega arith) (is ∙ rw (size, e)) (omega arith)
+use Rattle.console.specs.Output.{hexDigit, hexText, underWay}
 
 pub put-one : (out : List ℕ) (at b : ℕ) → at < length out → set out at b ≡ putAt out at (b ∷ [])
 put-one out at b room = set-split out at b room ∙ rw add-one (sym (append-snoc (take at out) b (drop (suc at) out)))
-
--- a line shows at most the 128 bytes that it has
-pub shown-first : (bytes : List ℕ) (n len : ℕ) → length bytes ≡ 128 → len ≡ min n 128 → (take n bytes ≡ take len bytes) × (length (take n bytes) ≡ len)
-shown-first bytes n len size e = (go (leb n 128) refl, simp length-take (omega arith))
-  where
-    go : (t : Bool) → leb n 128 ≡ t → take n bytes ≡ take len bytes
-    go true f = let same : n ≡ len = omega (arith, leb-true n 128 f) in rw same
-    go false f = take-all n bytes (omega (arith, leb-false n 128 f)) ∙ sym (take-all len bytes (omega (arith, leb-false n 128 f)))
 
 -- two digits for each byte
 pub hex-size : (bytes : List ℕ) → length (hexText bytes) ≡ 2 * length bytes

@@ -1,54 +1,50 @@
 -- Laws of responses.
 use mathlib.Core.Path.{_≡_, refl, sym, _∙_, ap, subst}
 use mathlib.Core.Bool.{Bool, true, false}
-use mathlib.Core.List.{List, [], _++_}
-use Prim.Native.Nat.{ℕ, _+_, _≤_, min}
+use mathlib.Core.List.{List, [], _∷_, _++_}
+use Prim.Native.Nat.{ℕ, zero, suc, _+_, _%_, _≤_, _<_, min}
+use native.Mathlib.Numerals.{add-one}
 use native.Mathlib.Omega.{arith}
 use lib.Dec.{leb}
-use lib.ListN.{length, take, drop, length-drop}
-use lib.Seq.{take-all, length-take-le}
+use lib.ListN.{length, take, drop, set, getD, replicate, length-take, length-drop, List·getD-eq-default}
+use lib.Seq.{take-all, length-take-le, take-suc-set}
 use borrow.Author.Tests.{leb-true, leb-false}
-use Rattle.text.specs.declared.lines.Line.{Line}
+use Rattle.timing.specs.declared.clocks.DramCycles.{DramCycles}
 use Rattle.history.specs.Answers.{Reply, Verdict}
 use Rattle.session.specs.declared.state.Session.{Session}
 use Rattle.journal.specs.Restore.{Part, partOf}
-use Rattle.statements.specs.Exact.{Left, stretchIn, RestoredIn, RestoreLeft}
-use Rattle.requests.specs.declared.requests.Parsed.{Parsed}
-use Rattle.requests.specs.declared.requests.Request.{Request}
-use Rattle.requests.specs.declared.requests.Request.the-variants.{Stretch}
+use Rattle.statements.specs.Exact.{Left, RestoredIn, RestoreLeft, stretchIn}
+use Rattle.requests.specs.declared.forms.Request.{Request}
+use Rattle.requests.specs.declared.forms.Request.the-variants.{Restore}
+use Rattle.console.specs.declared.say.Answer.{Answer}
 use Rattle.console.specs.declared.respond.Response.{Response}
-use Rattle.console.specs.Say.{IsLine, restoreText, stretchText}
-use Rattle.console.specs.Respond.{prints, says, called, restores, outcomeIn, outcome, Responds}
+use Rattle.console.specs.Say.{answerOf, withBytes, Tells}
+use Rattle.console.specs.Respond.{at, gapsFrom, prints, says, called, restores, Responds}
 
-abbrev pub saidOf : Session → ℕ → Line → Response
-saidOf s lent l = record { session = s; lent = lent; line = l; «hex_from» = 0; «hex_count» = 0 }
+abbrev pub responseOf : Session → ℕ → Answer → Response
+responseOf s lent a = record { session = s; lent = lent; answer = a }
 
-module _ (s : Session) (lent : ℕ) (l : Line) (r : Response) (e : r ≡ saidOf s lent l) where
-  -- a line alone
-  pub says-is : (xs j : List ℕ) → IsLine xs l → Responds (says xs s lent j) r j
-  says-is xs j is = rw e (record { line = is; place = refl; count = refl; printed = refl; state = refl; lent = refl; journal = refl })
+-- at most three numbers
+abbrev pub numbersOf : ℕ → ℕ → ℕ → ℕ → List ℕ
+numbersOf count a b c = take count (a ∷ b ∷ c ∷ replicate 19 0)
 
-  -- a restore's
-  pub restores-is : (v : RestoredIn) (j : List ℕ) (number at : ℕ) → RestoreLeft v number at s → IsLine (restoreText number at) l → Responds (restores v lent j) r j
-  restores-is v j number at told is =
-      rw e
-      (record {
-        line = rw (told .answer, told .beside) at is;
-        place = refl;
-        count = refl;
-        printed = refl;
-        state = told .state;
-        lent = refl;
-        journal = refl;
-      })
+-- numbers alone
+pub tells-is : (q : Request) (ns : List ℕ) (a : Answer) (s : Session) (lent : ℕ) (j : List ℕ) → Tells q ns a → Responds (says q ns s lent j) (responseOf s lent a) j
+tells-is q ns a s lent j t =
+    record { request = t .0; numbers = t .1; place = t .2; count = t .3; printed = rw (t .3); state = refl; lent = refl; journal = refl }
+
+module _ (q : Request) (count a b c : ℕ) (said : Answer) (e : said ≡ answerOf q count a b c) where
+  pub says-is : (s : Session) (lent : ℕ) (j : List ℕ) → Responds (says q (numbersOf count a b c) s lent j) (responseOf s lent said) j
+  says-is s lent j = tells-is q _ said s lent j (rw e (refl, refl, refl, refl))
 
   -- a call's, which saw the first bytes of the journal
-  pub called-is : (say : Reply → List ℕ) (v : Verdict) (before : Session) (j : List ℕ) (reply : Reply) (bytes : List ℕ) → Left v before (take lent j) reply s bytes → IsLine (say reply) l
-      → Responds (called say v before lent j) r (bytes ++ drop lent j)
-  called-is say v before j reply bytes left is =
+  pub called-is : (numbers : Reply → List ℕ) (v : Verdict) (before next : Session) (lent : ℕ) (j : List ℕ) (reply : Reply) (bytes : List ℕ) → Left v before (take lent j) reply next bytes → numbersOf count a b c ≡ numbers reply
+      → Responds (called q numbers v before lent j) (responseOf next lent said) (bytes ++ drop lent j)
+  called-is numbers v before next lent j reply bytes left is =
       rw e
       (record {
-        line = subst (λ (q : Reply). IsLine (say q) l) (left .answer) is;
+        request = refl;
+        numbers = is ∙ ap numbers (left .answer);
         place = refl;
         count = refl;
         printed = refl;
@@ -57,19 +53,27 @@ module _ (s : Session) (lent : ℕ) (l : Line) (r : Response) (e : r ≡ saidOf 
         journal = ap (λ (z : List ℕ). z ++ drop lent j) (left .written);
       })
 
--- a line and the journal's bytes behind it
-pub prints-is : (xs j : List ℕ) (s : Session) (lent from count : ℕ) (l : Line) → IsLine xs l → from + count ≤ length j
-    → Responds (prints xs from (take count (drop from j)) s lent j) (record { session = s; lent = lent; line = l; «hex_from» = from; «hex_count» = count }) j
-prints-is xs j s lent from count l is room =
-    let left : count ≤ length (drop from j) = simp length-drop (omega arith) in
-    record { line = is; place = refl; count = sym (length-take-le count (drop from j) left); printed = refl; state = refl; lent = refl; journal = refl }
+  -- with the journal's bytes behind them
+  pub prints-is : (told : Answer) (s : Session) (lent from size : ℕ) (j : List ℕ) → told ≡ withBytes said from size → from + size ≤ length j
+      → Responds (prints q (numbersOf count a b c) from (take size (drop from j)) s lent j) (responseOf s lent told) j
+  prints-is told s lent from size j f room =
+      let left : size ≤ length (drop from j) = simp length-drop (omega arith) in
+      rw (f, e)
+      (record { request = refl; numbers = refl; place = refl; count = sym (length-take-le size (drop from j) left); printed = refl; state = refl; lent = refl; journal = refl })
 
--- the stretch, at its place
-pub stretch-is : (s : Session) (lent : ℕ) (j : List ℕ) (p : Part) (l : Line) → p ≡ stretchIn s lent → p .start + p .size ≤ lent → lent ≤ length j → IsLine (stretchText (p .size)) l
-    → Responds (outcomeIn s j lent Stretch []) (record { session = s; lent = lent; line = l; «hex_from» = p .start; «hex_count» = p .size }) j
-stretch-is s lent j p l e inside low is =
-    subst (λ (q : Part). Responds (prints (stretchText (q .size)) (q .start) (partOf q j) s lent j) (record { session = s; lent = lent; line = l; «hex_from» = p .start; «hex_count» = p .size }) j) e
-    (prints-is (stretchText (p .size)) j s lent (p .start) (p .size) l is (omega arith))
+pub restores-is : (v : RestoredIn) (next : Session) (lent : ℕ) (j : List ℕ) (number at : ℕ) (said : Answer) → RestoreLeft v number at next → said ≡ answerOf Restore 2 number at 0 → Responds (restores v lent j) (responseOf next lent said) j
+restores-is v next lent j number at said told e =
+    rw e
+    (record {
+      request = refl;
+      numbers = rw (told .answer, told .beside);
+      place = refl;
+      count = refl;
+      printed = refl;
+      state = told .state;
+      lent = refl;
+      journal = refl;
+    })
 
 -- as many bytes as the part that is handed back has
 pub stretch-size : (s : Session) (lent : ℕ) (j : List ℕ) (p : Part) (bytes : List ℕ) → p ≡ stretchIn s lent → p .start + p .size ≤ lent → lent ≤ length j
@@ -87,6 +91,15 @@ take-least count n j e = go (leb count (length j)) refl
     go true f = let same : n ≡ count = omega (arith, leb-true count (length j) f) in rw same
     go false f = take-all n j (omega (arith, leb-false count (length j) f)) ∙ sym (take-all count j (omega (arith, leb-false count (length j) f)))
 
-pub outcome-is : (s : Session) (j : List ℕ) (lent n : ℕ) (p : Parsed) (q : Request) (r : Response) (after : List ℕ) → n ≡ min lent (length j) → p .request ≡ q → Responds (outcomeIn s j n q (p .gaps)) r after → Responds (outcome s j lent p) r after
-outcome-is s j lent n p q r after e f told =
-    subst (λ (x : Request). Responds (outcomeIn s j (min lent (length j)) x (p .gaps)) r after) (sym f) (subst (λ (m : ℕ). Responds (outcomeIn s j m q (p .gaps)) r after) e told)
+-- a request's numbers
+pub nth-none : (count i : ℕ) (l : List ℕ) → count ≤ i → 0 ≡ at (take count l) i
+nth-none count i l low = sym (List·getD-eq-default (take count l) 0 {n = i} (simp length-take (omega arith)))
+
+-- gaps stored one after another
+gaps-last : (n i : ℕ) (ns : List ℕ) → gapsFrom (suc n) i ns ≡ gapsFrom n i ns ++ (record { 0 = at ns (i + n) % 65536 } ∷ [])
+unfolding gapsFrom
+gaps-last zero i ns = let here : i + 0 ≡ i = omega arith in rw here
+gaps-last (suc n) i ns = let here : i + suc n ≡ suc i + n = omega arith in rw (here, ← gaps-last n (suc i) ns)
+
+pub gaps-next : (ns : List ℕ) (gaps : List DramCycles) (i : ℕ) → i < length gaps → take i gaps ≡ gapsFrom i 4 ns → take (i + 1) (set gaps i (record { 0 = at ns (4 + i) % 65536 })) ≡ gapsFrom (i + 1) 4 ns
+gaps-next ns gaps i low e = rw (add-one, take-suc-set gaps i (record { 0 = at ns (4 + i) % 65536 }) low, gaps-last i 4 ns, e)

@@ -1,17 +1,10 @@
--- Bytes put into a buffer, and moved in it.
-use mathlib.Core.Path.{_≡_}
+-- Bytes as hexadecimal, and lines in what was read.
 use mathlib.Core.Bool.{Bool, cond, not}
 use mathlib.Core.List.{List, [], _∷_}
 use Prim.Native.Nat.{ℕ, _+_, _-_, _/_, _%_, min}
 use lib.Dec.{eqb, leb, ltb}
 use lib.ListN.{length, take, drop}
-use Rattle.journal.specs.Restore.{putAt}
 use Rattle.requests.specs.Places.{past}
-
--- bytes put at a place, and the place behind them; where there is no room for all of them, nothing
-pub record Put (xs : List ℕ) (at : ℕ) (before after : List ℕ) (behind : ℕ) : Type 0 where
-  pub bytes : after ≡ cond (leb (at + length xs) (length before)) (putAt before at xs) before
-  pub place : behind ≡ cond (leb (at + length xs) (length before)) (at + length xs) at
 
 -- 0 to 9, a to f
 abbrev pub hexDigit : ℕ → ℕ

@@ -1,10 +1,10 @@
 -- What a request comes to.
 use mathlib.Core.Path.{_≡_}
 use mathlib.Core.Bool.{cond}
-use mathlib.Core.List.{List, [], _++_}
-use Prim.Native.Nat.{ℕ, _+_, min}
+use mathlib.Core.List.{List, [], _∷_, _++_}
+use Prim.Native.Nat.{ℕ, zero, suc, _+_, _%_, min}
 use lib.Dec.{leb, ltb}
-use lib.ListN.{length, take, drop, set}
+use lib.ListN.{length, take, drop, set, getD}
 use Rattle.timing.specs.declared.clocks.DramCycles.{DramCycles}
 use Rattle.timing.specs.Earliest.{Settings}
 use Rattle.history.specs.Answers.{Reply, Verdict, replyOf, roomOf}
@@ -24,9 +24,9 @@ use Rattle.statements.specs.Exact.{
   restoredAt,
   restoredState,
 }
-use Rattle.requests.specs.declared.requests.Parsed.{Parsed}
-use Rattle.requests.specs.declared.requests.Request.{Request}
-use Rattle.requests.specs.declared.requests.Request.the-variants.{
+use Rattle.requests.specs.declared.requests.Asked.{Asked}
+use Rattle.requests.specs.declared.forms.Request.{Request}
+use Rattle.requests.specs.declared.forms.Request.the-variants.{
   Nothing,
   Malformed,
   Open,
@@ -41,82 +41,94 @@ use Rattle.requests.specs.declared.requests.Request.the-variants.{
   Bytes,
 }
 use Rattle.console.specs.declared.respond.Response.{Response}
-use Rattle.console.specs.Say.{
-  IsLine,
-  openText,
-  offerText,
-  askText,
-  backText,
-  statusText,
-  restoreText,
-  lendText,
-  pokeText,
-  malformedText,
-  stretchText,
-  bytesText,
-}
+use Rattle.console.specs.Say.{brief, full, statusNumbers}
 
--- the answer's line (empty: nothing is printed), the journal's bytes that are printed behind it as hexadecimal and the place where
--- they stand, the state, how much is lent, and the journal
+-- the answer's word and numbers, the journal's bytes that are printed behind them as hexadecimal and the place where they stand, the
+-- state, how much is lent, and the journal
 pub record Outcome : Type 0 where
-  pub line : List ℕ
+  pub request : Request
+  pub numbers : List ℕ
   pub printed : List ℕ
   pub place : ℕ
   pub state : Session
   pub lent : ℕ
   pub journal : List ℕ
 
--- a line and bytes, and a line alone
-abbrev pub prints : List ℕ → ℕ → List ℕ → Session → ℕ → List ℕ → Outcome
-prints line place printed s lent j = record { line = line; printed = printed; place = place; state = s; lent = lent; journal = j }
+-- numbers and bytes, and numbers alone
+abbrev pub prints : Request → List ℕ → ℕ → List ℕ → Session → ℕ → List ℕ → Outcome
+prints q ns place printed s lent j = record { request = q; numbers = ns; printed = printed; place = place; state = s; lent = lent; journal = j }
 
-abbrev pub says : List ℕ → Session → ℕ → List ℕ → Outcome
-says line s lent j = prints line 0 [] s lent j
+abbrev pub says : Request → List ℕ → Session → ℕ → List ℕ → Outcome
+says q ns s lent j = prints q ns 0 [] s lent j
 
 -- a call sees the first bytes of the journal, as many as are lent; those behind them stay
-abbrev pub called : (Reply → List ℕ) → Verdict → Session → ℕ → List ℕ → Outcome
-called line v s lent j = says (line (replyOf v)) (stateAfter s v) lent (bytesAfter (take lent j) (s .records) v ++ drop lent j)
+abbrev pub called : Request → (Reply → List ℕ) → Verdict → Session → ℕ → List ℕ → Outcome
+called q numbers v s lent j = says q (numbers (replyOf v)) (stateAfter s v) lent (bytesAfter (take lent j) (s .records) v ++ drop lent j)
 
-abbrev pub settingsOf : ℕ → ℕ → ℕ → ℕ → List DramCycles → Settings
-settingsOf ratio ranks mode client gaps = record { opening = record { ratio = ratio; ranks = ranks; mode = mode; client = client }; gaps = gaps }
+-- a request's numbers; 0 where it has none
+abbrev pub at : List ℕ → ℕ → ℕ
+at ns i = getD ns i 0
+
+-- a client holds 32 bits and a gap 16: a line's always do, and any other value is reduced
+unfoldable pub gapsFrom : ℕ → ℕ → List ℕ → List DramCycles
+gapsFrom zero i ns = []
+gapsFrom (suc n) i ns = record { 0 = at ns i % 65536 } ∷ gapsFrom n (suc i) ns
+
+abbrev pub settingsOf : List ℕ → Settings
+settingsOf ns =
+    record {
+      opening = record { ratio = at ns 0; ranks = at ns 1; mode = at ns 2; client = at ns 3 % 4294967296 };
+      gaps = gapsFrom 20 4 ns;
+    }
 
 -- more than there is, is all of it
 abbrev pub lends : ℕ → Session → List ℕ → Outcome
-lends count s j = let n = min count (length j) in says (lendText n) s n j
+lends count s j = let n = min count (length j) in says Lend (n ∷ []) s n j
 
 abbrev pub restores : RestoredIn → ℕ → List ℕ → Outcome
-restores v lent j = says (restoreText (restoredNumber v) (restoredAt v)) (restoredState v) lent j
+restores v lent j = says Restore (restoredNumber v ∷ restoredAt v ∷ []) (restoredState v) lent j
 
-abbrev pub outcomeIn : Session → List ℕ → ℕ → Request → List DramCycles → Outcome
-outcomeIn s j lent Nothing gaps = says [] s lent j
-outcomeIn s j lent Malformed gaps = says malformedText s lent j
-outcomeIn s j lent (Open ratio ranks mode client) gaps =
-    called openText (openIn (roomOf (length (take lent j))) s (settingsOf ratio ranks mode client gaps)) s lent j
-outcomeIn s j lent (Offer kind rank bank cycle) gaps = called offerText (offerIn (roomOf (length (take lent j))) s kind rank bank cycle) s lent j
-outcomeIn s j lent (Ask kind rank bank) gaps = says (askText (earliestIn s kind rank bank)) s lent j
-outcomeIn s j lent Back gaps = called backText (takeBackIn (roomOf (length (take lent j))) s) s lent j
-outcomeIn s j lent Status gaps = says (statusText (statusIn s)) s lent j
-outcomeIn s j lent Stretch gaps =
-    let part = stretchIn s lent in prints (stretchText (part .size)) (part .start) (partOf part j) s lent j
-outcomeIn s j lent (Lend count) gaps = lends count s j
-outcomeIn s j lent (Restore count) gaps = restores (restoreIn (take count j)) lent j
-outcomeIn s j lent (Poke at byte) gaps = cond (ltb at (length j)) (says (pokeText at byte) s lent (set j at byte)) (says malformedText s lent j)
-outcomeIn s j lent (Bytes from count) gaps =
-    cond (leb (from + count) (length j)) (prints (bytesText count) from (take count (drop from j)) s lent j) (says malformedText s lent j)
+abbrev pub pokes : ℕ → ℕ → Session → ℕ → List ℕ → Outcome
+pokes place byte s lent j = cond (ltb place (length j)) (says Poke (place ∷ byte ∷ []) s lent (set j place byte)) (says Malformed [] s lent j)
 
--- no more is lent than there is
-abbrev pub outcome : Session → List ℕ → ℕ → Parsed → Outcome
-outcome s j lent p = outcomeIn s j (min lent (length j)) (p .request) (p .gaps)
+abbrev pub shows : ℕ → ℕ → Session → ℕ → List ℕ → Outcome
+shows from count s lent j = cond (leb (from + count) (length j)) (prints Bytes [] from (take count (drop from j)) s lent j) (says Malformed [] s lent j)
+
+abbrev pub room : ℕ → List ℕ → ℕ
+room lent j = roomOf (length (take lent j))
+
+-- A REQUEST, with its numbers
+unfoldable pub outcomeIn : Session → List ℕ → ℕ → Request → List ℕ → Outcome
+outcomeIn s j lent Nothing ns = says Nothing [] s lent j
+outcomeIn s j lent Malformed ns = says Malformed [] s lent j
+outcomeIn s j lent Open ns = called Open brief (openIn (room lent j) s (settingsOf ns)) s lent j
+outcomeIn s j lent Offer ns = called Offer full (offerIn (room lent j) s (at ns 0) (at ns 1) (at ns 2) (at ns 3)) s lent j
+outcomeIn s j lent Ask ns = says Ask (full (earliestIn s (at ns 0) (at ns 1) (at ns 2))) s lent j
+outcomeIn s j lent Back ns = called Back brief (takeBackIn (room lent j) s) s lent j
+outcomeIn s j lent Status ns = says Status (statusNumbers (statusIn s)) s lent j
+outcomeIn s j lent Stretch ns = let part = stretchIn s lent in prints Stretch (part .size ∷ []) (part .start) (partOf part j) s lent j
+outcomeIn s j lent Lend ns = lends (at ns 0) s j
+outcomeIn s j lent Restore ns = restores (restoreIn (take (at ns 0) j)) lent j
+outcomeIn s j lent Poke ns = pokes (at ns 0) (at ns 1 % 256) s lent j
+outcomeIn s j lent Bytes ns = shows (at ns 0) (at ns 1) s lent j
+
+-- no more is lent than there is; the request's numbers are the first of the array
+abbrev pub outcome : Session → List ℕ → ℕ → Asked → List ℕ → Outcome
+outcome s j lent a numbers = outcomeIn s j (min lent (length j)) (a .request) (take (a .count) numbers)
 
 pub record Responds (o : Outcome) (r : Response) (after : List ℕ) : Type 0 where
-  pub line : IsLine (o .line) (r .line)
-  pub place : r .«hex_from» ≡ o .place
-  pub count : r .«hex_count» ≡ length (o .printed)
-  pub printed : take (r .«hex_count») (drop (r .«hex_from») after) ≡ o .printed
+  pub request : r .answer .request ≡ o .request
+  pub numbers : take (r .answer .count) (r .answer .numbers) ≡ o .numbers
+  pub place : r .answer .«hex_from» ≡ o .place
+  pub count : r .answer .«hex_count» ≡ length (o .printed)
+  pub printed : take (r .answer .«hex_count») (drop (r .answer .«hex_from») after) ≡ o .printed
   pub state : r .session ≡ o .state
   pub lent : r .lent ≡ o .lent
   pub journal : after ≡ o .journal
 
--- a line alone, whatever the journal
-abbrev pub Says : List ℕ → Session → ℕ → Response → Type 0
-Says line s lent r = (j : List ℕ) → Responds (says line s lent j) r j
+-- whatever the journal
+abbrev pub Says : Request → List ℕ → Session → ℕ → Response → Type 0
+Says q ns s lent r = (j : List ℕ) → Responds (says q ns s lent j) r j
+
+abbrev pub Answers : Request → List ℕ → Session → ℕ → Response → Type 0
+Answers q ns s lent r = (j : List ℕ) → Responds (outcomeIn s j lent q ns) r j

@@ -1,61 +1,45 @@
--- The text of each answer's line.
+-- The text of an answer's line.
 use mathlib.Core.Path.{_≡_}
 use mathlib.Core.Bool.{cond}
 use mathlib.Core.List.{List, [], _∷_, _++_}
 use Prim.Native.Nat.{ℕ}
 use lib.Dec.{eqb}
-use lib.ListN.{length}
-use Rattle.text.specs.Text.{text, decimal}
-use Rattle.text.specs.declared.lines.Line.{Line}
-use Rattle.text.specs.Lines.{shown}
+use lib.ListN.{take, replicate}
+use Rattle.text.specs.Text.{spaced}
 use Rattle.history.specs.Answers.{Reply, Status}
 use Rattle.journal.specs.Listing.{space}
+use Rattle.requests.specs.declared.forms.Request.{Request}
+use Rattle.requests.specs.Forms.{wordOf}
+use Rattle.console.specs.declared.say.Answer.{Answer}
 
-pub record IsLine (xs : List ℕ) (r : Line) : Type 0 where
-  pub shows : shown r ≡ xs
-  pub size : r .len ≡ length xs
+-- the numbers of a call's answer, alone or with the earliest cycle and its gap; and those of a status
+abbrev pub brief : Reply → List ℕ
+brief r = r .number ∷ []
 
--- a name, and numbers behind it, each after a space
-unfoldable pub numbered : List ℕ → List ℕ → List ℕ
-numbered name [] = name
-numbered name (n ∷ ns) = numbered (name ++ space ++ decimal n) ns
+abbrev pub full : Reply → List ℕ
+full r = r .number ∷ r .cycle ∷ r .gap ∷ []
 
-abbrev pub openText : Reply → List ℕ
-openText r = numbered (text "open") (r .number ∷ [])
-
-abbrev pub replyText : List ℕ → Reply → List ℕ
-replyText name r = numbered name (r .number ∷ r .cycle ∷ r .gap ∷ [])
-
-abbrev pub offerText : Reply → List ℕ
-offerText r = replyText (text "offer") r
-
-abbrev pub askText : Reply → List ℕ
-askText r = replyText (text "ask") r
-
-abbrev pub backText : Reply → List ℕ
-backText r = numbered (text "back") (r .number ∷ [])
-
-abbrev pub statusText : Status → List ℕ
-statusText s = numbered (text "status") (s .number ∷ s .client ∷ s .opening ∷ s .survivors ∷ s .depth ∷ s .last ∷ s .records ∷ [])
-
-abbrev pub restoreText : ℕ → ℕ → List ℕ
-restoreText number at = numbered (text "restore") (number ∷ at ∷ [])
-
-abbrev pub lendText : ℕ → List ℕ
-lendText count = numbered (text "lend") (count ∷ [])
-
-abbrev pub pokeText : ℕ → ℕ → List ℕ
-pokeText at byte = numbered (text "poke") (at ∷ byte ∷ [])
-
-abbrev pub malformedText : List ℕ
-malformedText = text "?"
+abbrev pub statusNumbers : Status → List ℕ
+statusNumbers s = s .number ∷ s .client ∷ s .opening ∷ s .survivors ∷ s .depth ∷ s .last ∷ s .records ∷ []
 
 -- a space before the hexadecimal bytes, where there are any
 abbrev pub spaceBefore : ℕ → List ℕ
 spaceBefore count = cond (eqb count 0) [] space
 
-abbrev pub stretchText : ℕ → List ℕ
-stretchText count = numbered (text "stretch") (count ∷ []) ++ spaceBefore count
+-- THE LINE: the request's own word, numbers behind it, and a space before what is printed as hexadecimal
+unfoldable pub lineText : Request → List ℕ → ℕ → List ℕ
+lineText q ns count = (wordOf q ++ spaced ns) ++ spaceBefore count
 
-abbrev pub bytesText : ℕ → List ℕ
-bytesText count = text "bytes" ++ spaceBefore count
+abbrev pub answerText : Answer → List ℕ
+answerText a = lineText (a .request) (take (a .count) (a .numbers)) (a .«hex_count»)
+
+abbrev pub Tells : Request → List ℕ → Answer → Type 0
+Tells q ns a = (a .request ≡ q) × (take (a .count) (a .numbers) ≡ ns) × (a .«hex_from» ≡ 0) × (a .«hex_count» ≡ 0)
+
+-- at most three numbers
+abbrev pub answerOf : Request → ℕ → ℕ → ℕ → ℕ → Answer
+answerOf q count a b c =
+    record { request = q; count = count; numbers = a ∷ b ∷ c ∷ replicate 19 0; «hex_from» = 0; «hex_count» = 0 }
+
+abbrev pub withBytes : Answer → ℕ → ℕ → Answer
+withBytes a from count = record { request = a .request; count = a .count; numbers = a .numbers; «hex_from» = from; «hex_count» = count }

@@ -1,10 +1,9 @@
 // Answers gathered in a buffer.
 ghost use mathlib.Core.Path.{_≡_};
 ghost use mathlib.Core.List.{[], _∷_};
-ghost use Prim.Native.Nat.{_<_, min};
-ghost use Rattle.text.specs.Lines.{lineSize, shown};
-ghost use Rattle.console.specs.Output.{Put, hexDigit, hexText};
-use text::lines::Line;
+ghost use Prim.Native.Nat.{_<_};
+ghost use Rattle.text.specs.Lines.{Put};
+ghost use Rattle.console.specs.Output.{hexDigit, hexText};
 
 // The digit of a number below 16.
 fn hex_digit(n: u8) -> u8
@@ -25,33 +24,6 @@ pub fn put_byte(out: &mut [u8], at: usize, byte: u8) -> usize
     }
     out[at] = byte;
     at + 1
-}
-
-// How many bytes of a line are shown.
-fn shown_size(len: usize) -> usize
-    ensures { λ r. ⌜ r ≡ min len lineSize ⌝ }
-{
-    if len < 128 {
-        return len;
-    }
-    128
-}
-
-pub fn put_line(out: &mut [u8], at: usize, line: Line) -> usize
-    ensures { λ r. ⌜ Put (shown line) at (now (out .entry)) (now (out .exit)) r ⌝ }
-{
-    let bytes = line.bytes;
-    let len = shown_size(line.len);
-    if out.len() < len {
-        return at;
-    }
-    if out.len() - len < at {
-        return at;
-    }
-    for i in 0..len {
-        out[at + i] = bytes[i];
-    }
-    at + len
 }
 
 // Bytes as lower-case hexadecimal.

@@ -1,23 +1,15 @@
-// A request performed: the call, and the answer's line.
+// A request performed: the call, and the answer.
 ghost use mathlib.Core.Path.{_≡_};
-ghost use mathlib.Core.List.{[]};
-ghost use Prim.Native.Nat.{_≤_, min};
-ghost use lib.ListN.{length, take};
-ghost use Rattle.statements.specs.Exact.{earliestIn, statusIn, restoreIn};
-ghost use Rattle.requests.specs.declared.requests.Request.the-variants as asks;
-ghost use Rattle.console.specs.Say.{askText, statusText, malformedText};
-ghost use Rattle.console.specs.Respond.{lends, restores, outcomeIn, outcome, Responds, Says};
-use crate::say::ask_line;
-use crate::say::back_line;
-use crate::say::bytes_line;
-use crate::say::lend_line;
-use crate::say::malformed;
-use crate::say::offer_line;
-use crate::say::open_line;
-use crate::say::poke_line;
-use crate::say::restore_line;
-use crate::say::status_line;
-use crate::say::stretch_line;
+ghost use Prim.Native.Nat.{ℕ, _≤_, _<_, min};
+ghost use mathlib.Core.List.{List, []};
+ghost use lib.ListN.{length, take, getD};
+ghost use Rattle.session.specs.declared.state.Session.{Session};
+ghost use Rattle.requests.specs.declared.forms.Request.the-variants as asks;
+ghost use Rattle.console.specs.Respond.{gapsFrom, outcomeIn, outcome, Responds, Says, Answers};
+use crate::say::Answer;
+use crate::say::numbered;
+use crate::say::status_answer;
+use crate::say::with_bytes;
 use checker::calls::earliest;
 use checker::calls::offer;
 use checker::calls::open_session;
@@ -25,22 +17,18 @@ use checker::calls::status;
 use checker::calls::stretch;
 use checker::calls::stretch_place;
 use checker::calls::take_back;
-use requests::requests::Parsed;
-use requests::requests::Request;
+use requests::forms::Request;
+use requests::requests::Asked;
 use restoring::restore::restore;
 use session::state::Session;
-use text::lines::Line;
 use timing::clocks::ControllerCycles;
 use timing::clocks::DramCycles;
 
-// The state after a request, what is lent, and the answer: a line (empty: nothing is printed), and behind it the journal's bytes
-// from a place on as hexadecimal.
+// The state after a request, what is lent, and the answer.
 pub struct Response {
     pub session: Session,
     pub lent: usize,
-    pub line: Line,
-    pub hex_from: usize,
-    pub hex_count: usize,
+    pub answer: Answer,
 }
 
 fn smaller(a: u64, b: usize) -> usize
@@ -52,43 +40,57 @@ fn smaller(a: u64, b: usize) -> usize
     b
 }
 
-fn said(session: Session, lent: usize, line: Line) -> Response
-    ensures { λ r. ⌜ r ≡ record { session = session; lent = lent; line = line; «hex_from» = 0; «hex_count» = 0 } ⌝ }
+// A number of a request; 0 where it has none.
+fn nth(numbers: &[u64; 4096], count: usize, i: usize) -> u64
+    requires { ⌜ i < 4096 ⌝ }
+    ensures { λ r. ⌜ r ≡ getD (take count (now (numbers .entry))) i 0 ⌝ }
 {
+    if count <= i {
+        return 0;
+    }
+    numbers[i]
+}
+
+// The twenty gaps behind the four first numbers of an opening.
+fn gaps_of(numbers: &[u64; 4096], count: usize) -> [DramCycles; 20]
+    ensures { λ r. ⌜ r ≡ gapsFrom 20 4 (take count (now (numbers .entry))) ⌝ }
+{
+    let mut gaps = [DramCycles(0); 20];
+    let mut i = 0;
+    while i < 20 {
+        let gap = DramCycles((nth(numbers, count, 4 + i) % 65536) as u16);
+        gaps[i] = gap;
+        i += 1;
+    }
+    gaps
+}
+
+fn plain(session: Session, lent: usize, request: Request) -> Response
+    ensures { λ r. ⌜ Says request [] session lent r ⌝ }
+{
+    let said = numbered(request, 0, 0, 0, 0);
     Response {
         session,
         lent,
-        line,
-        hex_from: 0,
-        hex_count: 0,
+        answer: said,
     }
-}
-
-fn nothing(session: Session, lent: usize) -> Response
-    ensures { λ r. ⌜ Says [] session lent r ⌝ }
-{
-    said(session, lent, Line::empty())
-}
-
-fn refused(session: Session, lent: usize) -> Response
-    ensures { λ r. ⌜ Says malformedText session lent r ⌝ }
-{
-    said(session, lent, malformed())
 }
 
 fn opened(
     session: Session,
     journal: &mut [u8],
     lent: usize,
-    ratio: u64,
-    ranks: u64,
-    mode: u64,
-    client: u32,
-    gaps: [DramCycles; 20],
+    numbers: &[u64; 4096],
+    count: usize,
 ) -> Response
     requires { ⌜ lent ≤ length (now journal) ⌝ }
-    ensures { λ r. ⌜ Responds (outcomeIn session (now (journal .entry)) lent (asks.Open ratio ranks mode client) gaps) r (now (journal .exit)) ⌝ }
+    ensures { λ r. ⌜ Responds (outcomeIn session (now (journal .entry)) lent asks.Open (take count (now (numbers .entry)))) r (now (journal .exit)) ⌝ }
 {
+    let ratio = nth(numbers, count, 0);
+    let ranks = nth(numbers, count, 1);
+    let mode = nth(numbers, count, 2);
+    let client = (nth(numbers, count, 3) % 4294967296) as u32;
+    let gaps = gaps_of(numbers, count);
     let done = open_session(
         session,
         &mut journal[..lent],
@@ -98,146 +100,219 @@ fn opened(
         client,
         gaps,
     );
-    let number = done.number;
     let next = done.session;
-    said(next, lent, open_line(number))
+    let said = numbered(Request::Open, 1, done.number, 0, 0);
+    Response {
+        session: next,
+        lent,
+        answer: said,
+    }
 }
 
 fn offered(
     session: Session,
     journal: &mut [u8],
     lent: usize,
-    kind: u64,
-    rank: u64,
-    bank: u64,
-    cycle: u64,
+    numbers: &[u64; 4096],
+    count: usize,
 ) -> Response
     requires { ⌜ lent ≤ length (now journal) ⌝ }
-    ensures { λ r. ⌜ Responds (outcomeIn session (now (journal .entry)) lent (asks.Offer kind rank bank cycle) []) r (now (journal .exit)) ⌝ }
+    ensures { λ r. ⌜ Responds (outcomeIn session (now (journal .entry)) lent asks.Offer (take count (now (numbers .entry)))) r (now (journal .exit)) ⌝ }
 {
-    let stamp = ControllerCycles(cycle);
-    let done = offer(session, &mut journal[..lent], kind, rank, bank, stamp);
-    let answer = done.answer;
+    let kind = nth(numbers, count, 0);
+    let rank = nth(numbers, count, 1);
+    let bank = nth(numbers, count, 2);
+    let cycle = ControllerCycles(nth(numbers, count, 3));
+    let done = offer(session, &mut journal[..lent], kind, rank, bank, cycle);
     let next = done.session;
-    said(next, lent, offer_line(answer))
+    let reply = done.answer;
+    let at = reply.cycle;
+    let said = numbered(Request::Offer, 3, reply.number, at.0, reply.gap);
+    Response {
+        session: next,
+        lent,
+        answer: said,
+    }
 }
 
-fn asked(session: Session, lent: usize, kind: u64, rank: u64, bank: u64) -> Response
-    ensures { λ r. ⌜ Says (askText (earliestIn session kind rank bank)) session lent r ⌝ }
+fn asked(session: Session, lent: usize, numbers: &[u64; 4096], count: usize) -> Response
+    ensures { λ r. ⌜ Answers asks.Ask (take count (now (numbers .entry))) session lent r ⌝ }
 {
-    let answer = earliest(session, kind, rank, bank);
-    said(session, lent, ask_line(answer))
+    let kind = nth(numbers, count, 0);
+    let rank = nth(numbers, count, 1);
+    let bank = nth(numbers, count, 2);
+    let reply = earliest(session, kind, rank, bank);
+    let at = reply.cycle;
+    let said = numbered(Request::Ask, 3, reply.number, at.0, reply.gap);
+    Response {
+        session,
+        lent,
+        answer: said,
+    }
 }
 
 fn taken_back(session: Session, journal: &mut [u8], lent: usize) -> Response
     requires { ⌜ lent ≤ length (now journal) ⌝ }
-    ensures { λ r. ⌜ Responds (outcomeIn session (now (journal .entry)) lent asks.Back []) r (now (journal .exit)) ⌝ }
+    ensures { λ r. ⌜ ((ns : List ℕ) → Responds (outcomeIn session (now (journal .entry)) lent asks.Back ns) r (now (journal .exit))) ⌝ }
 {
     let done = take_back(session, &mut journal[..lent]);
-    let number = done.number;
     let next = done.session;
-    said(next, lent, back_line(number))
+    let said = numbered(Request::Back, 1, done.number, 0, 0);
+    Response {
+        session: next,
+        lent,
+        answer: said,
+    }
 }
 
 fn told(session: Session, lent: usize) -> Response
-    ensures { λ r. ⌜ Says (statusText (statusIn session)) session lent r ⌝ }
+    ensures { λ r. ⌜ ((ns : List ℕ) → Answers asks.Status ns session lent r) ⌝ }
 {
-    said(session, lent, status_line(status(session)))
+    let said = status_answer(status(session));
+    Response {
+        session,
+        lent,
+        answer: said,
+    }
 }
 
 fn stretched(session: Session, journal: &[u8], lent: usize) -> Response
     requires { ⌜ lent ≤ length (now journal) ⌝ }
-    ensures { λ r. ⌜ Responds (outcomeIn session (now (journal .entry)) lent asks.Stretch []) r (now (journal .entry)) ⌝ }
+    ensures { λ r. ⌜ ((ns : List ℕ) → Responds (outcomeIn session (now (journal .entry)) lent asks.Stretch ns) r (now (journal .entry))) ⌝ }
 {
     let place = stretch_place(session, lent);
     let part = stretch(session, &journal[..lent]);
-    let count = part.len();
+    let size = part.len();
+    let said = with_bytes(
+        numbered(Request::Stretch, 1, size as u64, 0, 0),
+        place.start,
+        size,
+    );
     Response {
         session,
         lent,
-        line: stretch_line(count as u64),
-        hex_from: place.start,
-        hex_count: count,
+        answer: said,
     }
 }
 
-fn lend(session: Session, journal: &[u8], count: u64) -> Response
-    ensures { λ r. ⌜ Responds (lends count session (now (journal .entry))) r (now (journal .entry)) ⌝ }
+fn lend(session: Session, journal: &[u8], numbers: &[u64; 4096], count: usize) -> Response
+    ensures { λ r. ⌜ ((lent : ℕ) → Responds (outcomeIn session (now (journal .entry)) lent asks.Lend (take count (now (numbers .entry)))) r (now (journal .entry))) ⌝ }
 {
-    let n = smaller(count, journal.len());
-    said(session, n, lend_line(n as u64))
+    let lent = smaller(nth(numbers, count, 0), journal.len());
+    let said = numbered(Request::Lend, 1, lent as u64, 0, 0);
+    Response {
+        session,
+        lent,
+        answer: said,
+    }
 }
 
-fn restored(journal: &[u8], lent: usize, count: u64) -> Response
-    ensures { λ r. ⌜ Responds (restores (restoreIn (take count (now (journal .entry)))) lent (now (journal .entry))) r (now (journal .entry)) ⌝ }
+fn restored(journal: &[u8], lent: usize, numbers: &[u64; 4096], count: usize) -> Response
+    ensures { λ r. ⌜ ((s : Session) → Responds (outcomeIn s (now (journal .entry)) lent asks.Restore (take count (now (numbers .entry)))) r (now (journal .entry))) ⌝ }
 {
-    let n = smaller(count, journal.len());
+    let n = smaller(nth(numbers, count, 0), journal.len());
     let done = restore(&journal[..n]);
-    let number = done.number;
-    let record = done.record;
     let next = done.session;
-    said(next, lent, restore_line(number, record))
+    let said = numbered(Request::Restore, 2, done.number, done.record, 0);
+    Response {
+        session: next,
+        lent,
+        answer: said,
+    }
 }
 
-fn poked(session: Session, journal: &mut [u8], lent: usize, at: u64, byte: u8) -> Response
-    ensures { λ r. ⌜ Responds (outcomeIn session (now (journal .entry)) lent (asks.Poke at byte) []) r (now (journal .exit)) ⌝ }
+fn poked(
+    session: Session,
+    journal: &mut [u8],
+    lent: usize,
+    numbers: &[u64; 4096],
+    count: usize,
+) -> Response
+    ensures { λ r. ⌜ Responds (outcomeIn session (now (journal .entry)) lent asks.Poke (take count (now (numbers .entry)))) r (now (journal .exit)) ⌝ }
 {
+    let at = nth(numbers, count, 0);
+    let byte = (nth(numbers, count, 1) % 256) as u8;
     if journal.len() as u64 <= at {
-        return refused(session, lent);
+        return plain(session, lent, Request::Malformed);
     }
     let place = at as usize;
     journal[place] = byte;
-    said(session, lent, poke_line(at, byte))
-}
-
-fn shown(session: Session, journal: &[u8], lent: usize, from: u64, count: u64) -> Response
-    ensures { λ r. ⌜ Responds (outcomeIn session (now (journal .entry)) lent (asks.Bytes from count) []) r (now (journal .entry)) ⌝ }
-{
-    let len = journal.len() as u64;
-    if len < count {
-        return refused(session, lent);
-    }
-    if len - count < from {
-        return refused(session, lent);
-    }
+    let said = numbered(Request::Poke, 2, at, byte as u64, 0);
     Response {
         session,
         lent,
-        line: bytes_line(count),
-        hex_from: from as usize,
-        hex_count: count as usize,
+        answer: said,
     }
 }
 
-// Calls see the first `lent` bytes of the journal; `restore`, `poke` and `bytes` see all of it.
-pub fn respond(session: Session, journal: &mut [u8], lent: usize, parsed: Parsed) -> Response
-    ensures { λ r. ⌜ Responds (outcome session (now (journal .entry)) lent parsed) r (now (journal .exit)) ⌝ }
+fn shown(
+    session: Session,
+    journal: &[u8],
+    lent: usize,
+    numbers: &[u64; 4096],
+    count: usize,
+) -> Response
+    ensures { λ r. ⌜ Responds (outcomeIn session (now (journal .entry)) lent asks.Bytes (take count (now (numbers .entry)))) r (now (journal .entry)) ⌝ }
 {
-    let request = parsed.request;
-    let gaps = parsed.gaps;
-    let lent = smaller(lent as u64, journal.len());
+    let from = nth(numbers, count, 0);
+    let wanted = nth(numbers, count, 1);
+    let len = journal.len() as u64;
+    if len < wanted {
+        return plain(session, lent, Request::Malformed);
+    }
+    if len - wanted < from {
+        return plain(session, lent, Request::Malformed);
+    }
+    let said = with_bytes(
+        numbered(Request::Bytes, 0, 0, 0, 0),
+        from as usize,
+        wanted as usize,
+    );
+    Response {
+        session,
+        lent,
+        answer: said,
+    }
+}
+
+fn performed(
+    session: Session,
+    journal: &mut [u8],
+    lent: usize,
+    asking: Asked,
+    numbers: &[u64; 4096],
+) -> Response
+    requires { ⌜ lent ≤ length (now journal) ⌝ }
+    ensures { λ r. ⌜ Responds (outcomeIn session (now (journal .entry)) lent (asking .request) (take (asking .count) (now (numbers .entry)))) r (now (journal .exit)) ⌝ }
+{
+    let request = asking.request;
+    let count = asking.count;
     match request {
-        Request::Nothing => nothing(session, lent),
-        Request::Malformed => refused(session, lent),
-        Request::Open {
-            ratio,
-            ranks,
-            mode,
-            client,
-        } => opened(session, journal, lent, ratio, ranks, mode, client, gaps),
-        Request::Offer {
-            kind,
-            rank,
-            bank,
-            cycle,
-        } => offered(session, journal, lent, kind, rank, bank, cycle),
-        Request::Ask { kind, rank, bank } => asked(session, lent, kind, rank, bank),
+        Request::Nothing => plain(session, lent, Request::Nothing),
+        Request::Malformed => plain(session, lent, Request::Malformed),
+        Request::Open => opened(session, journal, lent, numbers, count),
+        Request::Offer => offered(session, journal, lent, numbers, count),
+        Request::Ask => asked(session, lent, numbers, count),
         Request::Back => taken_back(session, journal, lent),
         Request::Status => told(session, lent),
         Request::Stretch => stretched(session, journal, lent),
-        Request::Lend(count) => lend(session, journal, count),
-        Request::Restore(count) => restored(journal, lent, count),
-        Request::Poke(at, byte) => poked(session, journal, lent, at, byte),
-        Request::Bytes(from, count) => shown(session, journal, lent, from, count),
+        Request::Lend => lend(session, journal, numbers, count),
+        Request::Restore => restored(journal, lent, numbers, count),
+        Request::Poke => poked(session, journal, lent, numbers, count),
+        Request::Bytes => shown(session, journal, lent, numbers, count),
     }
+}
+
+// Calls see the first `lent` bytes of the journal, no more than there are; `restore`, `poke` and `bytes` see all of it.
+pub fn respond(
+    session: Session,
+    journal: &mut [u8],
+    lent: usize,
+    asking: Asked,
+    numbers: &[u64; 4096],
+) -> Response
+    ensures { λ r. ⌜ Responds (outcome session (now (journal .entry)) lent asking (now (numbers .entry))) r (now (journal .exit)) ⌝ }
+{
+    let room = smaller(lent as u64, journal.len());
+    performed(session, journal, room, asking, numbers)
 }

@@ -1,131 +1,120 @@
-// The line of each answer.
-ghost use mathlib.Core.List.{[], _∷_, _++_};
-ghost use lib.ListN.{length};
-ghost use Prim.Native.Nat.{_≤_};
-ghost use Rattle.text.specs.Text.{decimal};
-ghost use Rattle.text.specs.Lines.{Appended};
-ghost use Rattle.journal.specs.Listing.{space};
-ghost use Rattle.history.specs.Answers.{plain};
-ghost use Rattle.judging.specs.Judged.{replyIn};
+// The answer to a line: the request's word, numbers behind it, and bytes of the journal.
+ghost use mathlib.Core.Path.{_≡_};
+ghost use mathlib.Core.List.{[]};
+ghost use Prim.Native.Nat.{min};
+ghost use lib.ListN.{take};
+ghost use Rattle.text.specs.Lines.{IsLine};
 ghost use Rattle.checker.specs.Replies.{knownStatus, statusReplied};
-ghost use Rattle.console.specs.Say.{IsLine, numbered, openText, replyText, offerText, askText, backText, statusText, restoreText, lendText, pokeText, malformedText, stretchText, bytesText};
+ghost use Rattle.requests.specs.Forms.{wordOf};
+ghost use Rattle.console.specs.Say.{answerText, answerOf, withBytes, statusNumbers, Tells};
 use checker::answers::Status;
 use checker::answers::StatusAnswer;
-use judging::answers::Answer;
+use requests::forms::Request;
+use requests::forms::WORDS;
+use requests::forms::row_of;
+use requests::words::nth_word;
 use text::lines::Line;
 
-// A space and a number.
-fn also(line: Line, number: u64) -> Line
-    ensures { λ r. ⌜ Appended line (space ++ decimal number) r ⌝ }
-{
-    line.put(b' ').put_decimal(number)
+// The first `count` numbers are said, and behind them `hex_count` bytes of the journal from a place on.
+pub struct Answer {
+    pub request: Request,
+    pub count: usize,
+    pub numbers: [u64; 22],
+    pub hex_from: usize,
+    pub hex_count: usize,
 }
 
-// No name is longer than 8 bytes.
-fn one(name: &[u8], number: u64) -> Line
-    requires { ⌜ length (now name) ≤ 8 ⌝ }
-    ensures { λ r. ⌜ IsLine (numbered (now (name .entry)) (number ∷ [])) r ⌝ }
+const MOST: usize = 22;
+
+// At most three numbers.
+pub fn numbered(request: Request, count: usize, first: u64, second: u64, third: u64) -> Answer
+    ensures { λ r. ⌜ r ≡ answerOf request count first second third ⌝ }
 {
-    also(Line::empty().put_all(name), number)
+    let mut numbers = [0u64; 22];
+    numbers[0] = first;
+    numbers[1] = second;
+    numbers[2] = third;
+    Answer {
+        request,
+        count,
+        numbers,
+        hex_from: 0,
+        hex_count: 0,
+    }
 }
 
-fn two(name: &[u8], first: u64, second: u64) -> Line
-    requires { ⌜ length (now name) ≤ 8 ⌝ }
-    ensures { λ r. ⌜ IsLine (numbered (now (name .entry)) (first ∷ second ∷ [])) r ⌝ }
+// The same, with bytes of the journal behind it.
+pub fn with_bytes(said: Answer, from: usize, count: usize) -> Answer
+    ensures { λ r. ⌜ r ≡ withBytes said from count ⌝ }
 {
-    also(one(name, first), second)
+    let request = said.request;
+    let numbers = said.numbers;
+    Answer {
+        request,
+        count: said.count,
+        numbers,
+        hex_from: from,
+        hex_count: count,
+    }
 }
 
-fn answered(name: &[u8], answer: Answer) -> Line
-    requires { ⌜ length (now name) ≤ 8 ⌝ }
-    ensures { λ r. ⌜ IsLine (replyText (now (name .entry)) (replyIn answer)) r ⌝ }
+fn known(status: Status) -> Answer
+    ensures { λ r. ⌜ Tells Request.Status (statusNumbers (knownStatus status)) r ⌝ }
 {
-    let cycle = answer.cycle;
-    also(two(name, answer.number, cycle.0), answer.gap)
-}
-
-pub fn malformed() -> Line
-    ensures { λ r. ⌜ IsLine malformedText r ⌝ }
-{
-    Line::empty().put(b'?')
-}
-
-pub fn open_line(number: u64) -> Line
-    ensures { λ r. ⌜ IsLine (openText (plain number)) r ⌝ }
-{
-    one(b"open", number)
-}
-
-pub fn offer_line(answer: Answer) -> Line
-    ensures { λ r. ⌜ IsLine (offerText (replyIn answer)) r ⌝ }
-{
-    answered(b"offer", answer)
-}
-
-pub fn ask_line(answer: Answer) -> Line
-    ensures { λ r. ⌜ IsLine (askText (replyIn answer)) r ⌝ }
-{
-    answered(b"ask", answer)
-}
-
-pub fn back_line(number: u64) -> Line
-    ensures { λ r. ⌜ IsLine (backText (plain number)) r ⌝ }
-{
-    one(b"back", number)
-}
-
-fn known_line(status: Status) -> Line
-    ensures { λ r. ⌜ IsLine (statusText (knownStatus status)) r ⌝ }
-{
-    let line = two(b"status", 0, status.client as u64);
-    let placed = also(also(line, status.opening as u64), status.survivors);
+    let mut numbers = [0u64; 22];
+    numbers[1] = status.client as u64;
+    numbers[2] = status.opening as u64;
+    numbers[3] = status.survivors;
+    numbers[4] = status.depth;
     let last = status.last;
-    also(also(also(placed, status.depth), last.0), status.records)
-}
-
-pub fn status_line(answer: StatusAnswer) -> Line
-    ensures { λ r. ⌜ IsLine (statusText (statusReplied answer)) r ⌝ }
-{
-    match answer {
-        StatusAnswer::Known(status) => known_line(status),
-        StatusAnswer::NoSession => Line::empty().put_all(b"status 1 0 0 0 0 0 0"),
+    numbers[5] = last.0;
+    numbers[6] = status.records;
+    Answer {
+        request: Request::Status,
+        count: 7,
+        numbers,
+        hex_from: 0,
+        hex_count: 0,
     }
 }
 
-pub fn restore_line(number: u64, record: u64) -> Line
-    ensures { λ r. ⌜ IsLine (restoreText number «record») r ⌝ }
+pub fn status_answer(answered: StatusAnswer) -> Answer
+    ensures { λ r. ⌜ Tells Request.Status (statusNumbers (statusReplied answered)) r ⌝ }
 {
-    two(b"restore", number, record)
-}
-
-pub fn lend_line(count: u64) -> Line
-    ensures { λ r. ⌜ IsLine (lendText count) r ⌝ }
-{
-    one(b"lend", count)
-}
-
-pub fn poke_line(at: u64, byte: u8) -> Line
-    ensures { λ r. ⌜ IsLine (pokeText at byte) r ⌝ }
-{
-    two(b"poke", at, byte as u64)
-}
-
-// The stretch's bytes stand behind its line, after a space.
-pub fn stretch_line(count: u64) -> Line
-    ensures { λ r. ⌜ IsLine (stretchText count) r ⌝ }
-{
-    let line = one(b"stretch", count);
-    if count == 0 {
-        return line;
+    match answered {
+        StatusAnswer::Known(status) => known(status),
+        StatusAnswer::NoSession => numbered(Request::Status, 7, 1, 0, 0),
     }
-    line.put(b' ')
 }
 
-pub fn bytes_line(count: u64) -> Line
-    ensures { λ r. ⌜ IsLine (bytesText count) r ⌝ }
+fn least(count: usize) -> usize
+    ensures { λ r. ⌜ r ≡ min count 22 ⌝ }
 {
-    let line = Line::empty().put_all(b"bytes");
-    if count == 0 {
+    if count < MOST {
+        return count;
+    }
+    MOST
+}
+
+fn word_line(request: Request) -> Line
+    ensures { λ r. ⌜ IsLine (wordOf request) r ⌝ }
+{
+    let words = WORDS;
+    let word = nth_word(&words, row_of(request));
+    let start = word.start;
+    let end = word.end;
+    Line::empty().put_all(&words[start..end])
+}
+
+// The line of an answer; its bytes stand behind it, after a space.
+pub fn answer_line(said: Answer) -> Line
+    ensures { λ r. ⌜ IsLine (answerText said) r ⌝ }
+{
+    let request = said.request;
+    let numbers = said.numbers;
+    let count = least(said.count);
+    let line = word_line(request).put_numbers(&numbers[..count]);
+    if said.hex_count == 0 {
         return line;
     }
     line.put(b' ')

@@ -1,5 +1,6 @@
 pub mod SliceLaws
 pub mod PlaceLaws
 pub mod WordLaws
+pub mod FormLaws
 pub mod RequestLaws
 pub mod Examples

@@ -1,104 +1,181 @@
--- Laws of the forms.
+-- Laws of what is read and asked.
 use mathlib.Core.Path.{_≡_, refl, sym, _∙_, ap}
-use mathlib.Core.Bool.{Bool, true, false, _&&_, true≢false}
-use mathlib.Core.List.{List, [], _∷_, map}
+use mathlib.Core.Bool.{Bool, true, false, cond}
+use mathlib.Core.List.{List, [], _∷_, _++_, map, append-assoc, append-nil}
 use Prim.Native.Nat.{ℕ, zero, suc, _+_, _-_, _≤_, _<_}
 use native.Mathlib.Numerals.{add-one}
 use native.Mathlib.Omega.{arith}
 use lib.Dec.{leb}
-use lib.ListN.{length, take, drop, getD, set, length-drop, length-map, List·getD-map, drop-of-length-le}
-use lib.Seq.{drop-cons, take-suc, take-suc-set, take-all, getD-drop}
-use borrow.Author.Tests.{leb-true, le-leb, lt-leb, eq-eqb, ne-eqb, le-ltb, lt-ltb}
+use lib.ListN.{length, take, drop, getD, set, length-take}
+use lib.Seq.{take-suc-set}
+use borrow.Author.Tests.{le-leb, lt-leb, eq-eqb, ne-eqb, le-ltb, lt-ltb}
 use Rattle.text.specs.Text.{text}
-use Rattle.timing.specs.declared.clocks.DramCycles.{DramCycles}
-use Rattle.requests.specs.declared.requests.Request.the-variants.{Nothing, Malformed}
-use Rattle.requests.specs.Words.{before, frontWord, laterWords, words, sameWord, numbersOf}
-use Rattle.requests.specs.Requests.{namedKind, kindNumber, kindedOf, requestOf, gap, withoutGaps, allAtMost, openForm, askedBy, asked}
+use Rattle.timing.specs.declared.kinds.CommandKind.the-variants.{Act}
+use Rattle.timing.specs.Kinds.{codeOf}
+use Rattle.journal.specs.Listing.{nameOf}
+use Rattle.requests.specs.declared.words.Number.{Number}
+use Rattle.requests.specs.declared.words.Number.the-variants.{Value, NoNumber}
+use Rattle.requests.specs.declared.forms.Form.{Form}
+use Rattle.requests.specs.declared.requests.Asked.{Asked}
+use Rattle.requests.specs.declared.requests.Count.{Count}
+use Rattle.requests.specs.declared.requests.Count.the-variants.{Numbers, Unread}
+use Rattle.requests.specs.declared.forms.Request.{Request}
+use Rattle.requests.specs.declared.forms.Request.the-variants.{Malformed}
+use Rattle.requests.specs.declared.forms.Place.{Place}
+use Rattle.requests.specs.Words.{frontWord, laterWords, words, indexOf, numberOf}
+use Rattle.requests.specs.Forms.{wordOf, requests, formOf, formAt, placeAt, isWhole}
+use Rattle.requests.specs.Requests.{kinds, kindIndex, within, numberAt, named, Read, these, unread, also, readFrom, filled, IsRead, Fills, Asking, nothing, malformed, askedBy, asked, Asks}
 
--- a first word, and those behind it
-kinded-word : (count : ℕ) (w : List ℕ) (ws later : List (List ℕ)) → ws ≡ before w later → (w ≡ [] → (ws ≡ []) × (later ≡ [])) → record { kind = kindNumber w; numbers = numbersOf count later } ≡ kindedOf count ws
-unfolding namedKind sameWord text
-kinded-word count [] ws later e end = rw (end refl .0, end refl .1)
-kinded-word count (b ∷ bs) ws later e end = rw e
+pub within-high : (n most : ℕ) (number : Number) → number ≡ Value n → most < n → NoNumber ≡ within most number
+within-high n most number e over = rw (e, lt-leb n most over)
 
-pub kinded-is : (count : ℕ) (w : List ℕ) (ws later : List (List ℕ)) → ws ≡ before w later → (w ≡ [] → ws ≡ []) → record { kind = kindNumber w; numbers = numbersOf count later } ≡ kindedOf count ws
-kinded-is count w ws later e end = kinded-word count w ws later e (λ z. (end z, sym (e ∙ rw z) ∙ end z))
+pub within-low : (n most : ℕ) (number : Number) → number ≡ Value n → n ≤ most → Value n ≡ within most number
+within-low n most number e under = rw (e, le-leb n most under)
 
--- every number of a list, one after another
-module _ (most : ℕ) (ns : List ℕ) (i : ℕ) (low : i < length ns) where
-  pub most-over : most < getD ns i 0 → allAtMost most (drop i ns) ≡ false
-  unfolding allAtMost
-  most-over over = rw (drop-cons ns i 0 low, lt-leb (getD ns i 0) most over)
+pub number-read : (f : Form) (i : ℕ) (w : List ℕ) (p : Place) {number known : Number} → number ≡ numberAt p w → p ≡ placeAt f i → number ≡ known → numberAt (placeAt f i) w ≡ known
+number-read f i w p e at is = rw (← at, ← e) is
 
-  pub most-next : getD ns i 0 ≤ most → allAtMost most (drop i ns) ≡ allAtMost most (drop (i + 1) ns)
-  unfolding allAtMost
-  most-next under = rw (add-one, drop-cons ns i 0 low, le-leb (getD ns i 0) most under)
+-- numbers read so far, before those still to be read
+abbrev pub onto : List ℕ → Read → Read
+onto ns (these more) = these (ns ++ more)
+onto ns unread = unread
 
-pub most-end : (most : ℕ) (ns : List ℕ) (i : ℕ) → length ns ≤ i → allAtMost most (drop i ns) ≡ true
-unfolding allAtMost
-most-end most ns i done = rw (drop-of-length-le ns {i = i} done)
+pub onto-none : (r : Read) → onto [] r ≡ r
+onto-none (these ns) = refl
+onto-none unread = refl
 
-most-step : (most n : ℕ) (ns : List ℕ) → allAtMost most (n ∷ ns) ≡ true → (n ≤ most) × (allAtMost most ns ≡ true)
-unfolding allAtMost
-most-step most n ns e = go (leb n most) refl e
-  where
-    go : (t : Bool) → leb n most ≡ t → t && allAtMost most ns ≡ true → (n ≤ most) × (allAtMost most ns ≡ true)
-    go true f g = (leb-true n most f, g)
-    go false f g = absurd (true≢false (sym g))
+onto-also : (ns : List ℕ) (n : ℕ) (r : Read) → onto ns (also (Value n) r) ≡ onto (ns ++ (n ∷ [])) r
+onto-also ns n (these more) = ap these (sym (append-assoc ns (n ∷ []) more))
+onto-also ns n unread = refl
 
-pub most-at : (most : ℕ) (ns : List ℕ) (i : ℕ) → allAtMost most ns ≡ true → getD ns i 0 ≤ most
-most-at most [] i e = omega arith
-most-at most (n ∷ ns) zero e = most-step most n ns e .0
-most-at most (n ∷ ns) (suc i) e = most-at most ns i (most-step most n ns e .1)
+module _ (f : Form) (ws rest : List (List ℕ)) (numbers : List ℕ) (i : ℕ) (is : readFrom f 0 ws ≡ onto (take i numbers) (readFrom f i rest)) (room : i ≤ length numbers) where
+  pub read-end : rest ≡ [] → IsRead (readFrom f 0 ws) (Numbers i) numbers
+  unfolding readFrom
+  read-end e =
+      let size : length (take i numbers) ≡ i = simp length-take (omega arith) in
+      rw (is, e, append-nil (take i numbers), size) (refl, refl)
 
--- gaps stored one after another
-pub gaps-next : (ns : List ℕ) (gaps : List DramCycles) (i : ℕ) → length ns ≡ 24 → length gaps ≡ 20 → i < 20 → take i gaps ≡ take i (map gap (drop 4 ns))
-    → take (i + 1) (set gaps i (gap (getD ns (4 + i) 0))) ≡ take (i + 1) (map gap (drop 4 ns))
-gaps-next ns gaps i size room low e =
-    let all = map gap (drop 4 ns) in
-    let many : length all ≡ 20 = length-map (drop 4 ns) gap ∙ simp length-drop (omega arith) in
-    let next : getD all i (gap 0) ≡ gap (getD ns (4 + i) 0) = List·getD-map gap (drop 4 ns) i 0 ∙ ap gap (getD-drop 4 ns i 0) in
-    rw (add-one, take-suc-set gaps i (gap (getD ns (4 + i) 0)) (omega arith), take-suc all i (gap 0) (omega arith), next, e)
+  module _ (w : List ℕ) (later : List (List ℕ)) (e : rest ≡ w ∷ later) where
+    pub read-bad : numberAt (placeAt f i) w ≡ NoNumber → IsRead (readFrom f 0 ws) Unread numbers
+    unfolding readFrom
+    read-bad bad = rw (is, e, bad) refl
 
-pub gaps-end : (ns : List ℕ) (gaps : List DramCycles) (i : ℕ) → length ns ≡ 24 → length gaps ≡ 20 → 20 ≤ i → take i gaps ≡ take i (map gap (drop 4 ns)) → gaps ≡ map gap (drop 4 ns)
-gaps-end ns gaps i size room done e =
-    let all = map gap (drop 4 ns) in
-    let many : length all ≡ 20 = length-map (drop 4 ns) gap ∙ simp length-drop (omega arith) in
-    sym (take-all i gaps (omega arith)) ∙ e ∙ take-all i all (omega arith)
+    pub read-next : (n : ℕ) → numberAt (placeAt f i) w ≡ Value n → i < length numbers → readFrom f 0 ws ≡ onto (take (i + 1) (set numbers i n)) (readFrom f (i + 1) later)
+    unfolding readFrom
+    read-next n good low = is ∙ rw (e, good, add-one, take-suc-set numbers i n low) (onto-also (take i numbers) n (readFrom f (suc i) later))
+
+-- a word at its place
+kind-words : words (text "ACT RD WR PREPB PREAB REFAB REFPB") ≡ map nameOf kinds
+unfolding text frontWord laterWords
+kind-words = refl
+
+code-of : (k : ℕ) → k < 7 → k + 1 ≡ codeOf (getD kinds k Act)
+code-of zero low = refl
+code-of (suc zero) low = refl
+code-of (suc (suc zero)) low = refl
+code-of (suc (suc (suc zero))) low = refl
+code-of (suc (suc (suc (suc zero)))) low = refl
+code-of (suc (suc (suc (suc (suc zero))))) low = refl
+code-of (suc (suc (suc (suc (suc (suc zero)))))) low = refl
+code-of (suc (suc (suc (suc (suc (suc (suc k))))))) low = absurd (omega arith)
+
+module _ (p : Place) (word : List ℕ) (number : Number) (is : number ≡ within (p .most) (numberOf word)) where
+  pub number-plain : p .named ≡ false → number ≡ numberAt p word
+  unfolding numberAt
+  number-plain e = is ∙ rw e
+
+  module _ (e : p .named ≡ true) (k : ℕ) (found : k ≡ indexOf word (words (text "ACT RD WR PREPB PREAB REFAB REFPB"))) where
+    index : kindIndex word ≡ k
+    unfolding kindIndex
+    index = sym (found ∙ ap (indexOf word) kind-words)
+
+    pub number-other : 7 ≤ k → number ≡ numberAt p word
+    unfolding numberAt
+    number-other out = is ∙ rw (e, index, le-ltb k 7 out)
+
+    pub number-kind : k < 7 → Value (k + 1) ≡ numberAt p word
+    unfolding numberAt
+    number-kind low = rw (e, index, lt-ltb k 7 low, code-of k low)
+
+-- the row of a word
+row-words : words (text "? open offer ask back status stretch lend restore poke bytes") ≡ map wordOf requests
+unfolding text frontWord laterWords
+row-words = refl
+
+module _ (word : List ℕ) (n : ℕ) (f : Form) (found : n ≡ indexOf word (words (text "? open offer ask back status stretch lend restore poke bytes"))) (is : f ≡ formAt n) where
+  here : formAt (indexOf word (map wordOf requests)) ≡ f
+  here = sym (is ∙ ap formAt (found ∙ ap (indexOf word) row-words))
+
+  pub named-memory : (inFile : Bool) → inFile ≡ false → f ≡ named inFile word
+  unfolding named
+  named-memory inFile e = rw (e, here)
+
+  pub named-file : (inFile : Bool) → inFile ≡ true → f .7 ≡ true → f ≡ named inFile word
+  unfolding named
+  named-file inFile e stands = rw (e, here, stands)
+
+  pub named-none : (inFile : Bool) → inFile ≡ true → f .7 ≡ false → formAt 0 ≡ named inFile word
+  unfolding named formAt
+  named-none inFile e stands = rw (e, here, stands)
+
+-- the numbers fill a row's places, or not
+module _ (f : Form) (count : Count) where
+  pub fills-unread : (r : Asked) → count ≡ Unread → r ≡ record { request = Malformed; count = 0 } → Fills f count r
+  unfolding filled
+  fills-unread r e is (these ns) after read = let z : _≡_ {A = ℕ} 0 1 = cc (read .0) in absurd (omega arith)
+  fills-unread r e is unread after read = rw is (record { request = refl; count = refl; numbers = refl })
+
+  module _ (n : ℕ) (e : count ≡ Numbers n) where
+    pub fills-not : (r : Asked) → isWhole f n ≡ false → r ≡ record { request = Malformed; count = 0 } → Fills f count r
+    unfolding filled
+    fills-not r bad is (these ns) after read =
+        let size : length ns ≡ n = cc (read .0) in
+        rw (is, size, bad) (record { request = refl; count = refl; numbers = refl })
+    fills-not r bad is unread after read = let z : _≡_ {A = ℕ} 0 1 = cc in absurd (omega arith)
+
+    pub fills-whole : isWhole f n ≡ true → Fills f count (record { request = f .0; count = n })
+    unfolding filled
+    fills-whole good (these ns) after read =
+        let size : length ns ≡ n = cc (read .0) in
+        rw (size, good) (record { request = refl; count = sym size; numbers = rw size at (read .1) })
+    fills-whole good unread after read = let z : _≡_ {A = ℕ} 0 1 = cc in absurd (omega arith)
 
 -- a line by its first word
-module _ (verb : List ℕ) (ws : List (List ℕ)) where
-  pub comment-is : getD verb 0 0 ≡ 35 → askedBy (verb ∷ ws) ≡ withoutGaps Nothing
-  comment-is e = rw (eq-eqb (getD verb 0 0) 35 e)
+pub none-asked : (q : Request) (a : Asking) (r : Asked) (after : List ℕ) → a ≡ record { request = q; numbers = [] } → r ≡ record { request = q; count = 0 } → Asks a r after
+none-asked q a r after e is = rw (e, is) (record { request = refl; count = refl; numbers = refl })
 
-  module _ (plain : getD verb 0 0 ≡ 35 → ⊥) where
-    pub open-is : sameWord verb (text "open") ≡ true → askedBy (verb ∷ ws) ≡ openForm (numbersOf 24 ws)
-    open-is e = rw (ne-eqb (getD verb 0 0) 35 plain, e)
+module _ (inFile : Bool) (word : List ℕ) (ws : List (List ℕ)) where
+  pub comment-is : getD word 0 0 ≡ 35 → askedBy inFile (word ∷ ws) ≡ nothing
+  unfolding askedBy
+  comment-is e = rw (eq-eqb (getD word 0 0) 35 e)
 
-    pub other-is : sameWord verb (text "open") ≡ false → askedBy (verb ∷ ws) ≡ withoutGaps (requestOf verb ws)
-    other-is e = rw (ne-eqb (getD verb 0 0) 35 plain, e)
+  pub form-is : (getD word 0 0 ≡ 35 → ⊥) → (f : Form) → f ≡ named inFile word → askedBy inFile (word ∷ ws) ≡ filled f (readFrom f 0 ws)
+  unfolding askedBy
+  form-is plain f e = rw (ne-eqb (getD word 0 0) 35 plain, ← e)
 
 -- a line by its bytes: none, cut short, too long, and of at most 4,096 with its carriage return
-pub asked-empty : (line : List ℕ) (ended : Bool) → length line ≡ 0 → asked line ended ≡ withoutGaps Nothing
-unfolding asked frontWord laterWords
-asked-empty [] true e = refl
-asked-empty [] false e = refl
-asked-empty (b ∷ bs) ended e = absurd (omega arith)
+module _ (inFile : Bool) where
+  pub asked-empty : (line : List ℕ) (ended : Bool) → length line ≡ 0 → asked line ended inFile ≡ nothing
+  unfolding asked askedBy frontWord laterWords
+  asked-empty [] true e = refl
+  asked-empty [] false e = refl
+  asked-empty (b ∷ bs) ended e = absurd (omega arith)
 
-pub asked-cut : (line : List ℕ) → (length line ≡ 0 → ⊥) → asked line false ≡ withoutGaps Malformed
-unfolding asked
-asked-cut [] n = absurd (n refl)
-asked-cut (b ∷ bs) n = refl
-
-pub asked-long : (line : List ℕ) → 4096 < length line → asked line true ≡ withoutGaps Malformed
-unfolding asked
-asked-long line h = rw (lt-ltb 4096 (length line) h)
-
-module _ (line : List ℕ) (fits : length line ≤ 4096) where
-  pub asked-return : getD line (length line - 1) 0 ≡ 13 → asked line true ≡ askedBy (words (take (length line - 1) line))
+  pub asked-cut : (line : List ℕ) (ended : Bool) → ended ≡ false → (length line ≡ 0 → ⊥) → asked line ended inFile ≡ malformed
   unfolding asked
-  asked-return e = rw (le-ltb 4096 (length line) fits, eq-eqb (getD line (length line - 1) 0) 13 e)
+  asked-cut [] ended e n = absurd (n refl)
+  asked-cut (b ∷ bs) ended e n = rw e
 
-  pub asked-ended : (getD line (length line - 1) 0 ≡ 13 → ⊥) → asked line true ≡ askedBy (words line)
-  unfolding asked
-  asked-ended n = rw (le-ltb 4096 (length line) fits, ne-eqb (getD line (length line - 1) 0) 13 n)
+  module _ (line : List ℕ) (ended : Bool) (e : ended ≡ true) where
+    pub asked-long : 4096 < length line → asked line ended inFile ≡ malformed
+    unfolding asked
+    asked-long h = rw (e, lt-ltb 4096 (length line) h)
+
+    module _ (fits : length line ≤ 4096) where
+      pub asked-return : getD line (length line - 1) 0 ≡ 13 → asked line ended inFile ≡ askedBy inFile (words (take (length line - 1) line))
+      unfolding asked
+      asked-return r = rw (e, le-ltb 4096 (length line) fits, eq-eqb (getD line (length line - 1) 0) 13 r)
+
+      pub asked-ended : (getD line (length line - 1) 0 ≡ 13 → ⊥) → asked line ended inFile ≡ askedBy inFile (words line)
+      unfolding asked
+      asked-ended n = rw (e, le-ltb 4096 (length line) fits, ne-eqb (getD line (length line - 1) 0) 13 n)

@@ -27,10 +27,8 @@ use Rattle.requests.specs.Words.{
   valueOf,
   isNumber,
   numberOf,
-  allNumbers,
-  valuesOf,
-  noNumbers,
-  numbersOf,
+  indexOf,
+  IsWord,
 }
 use Rattle.requests.proofs.PlaceLaws.{past-low, past-high}
 
@@ -222,85 +220,52 @@ module _ (line : List ℕ) (from : ℕ) (w : Word) (is : w ≡ wordAt line from)
         let here : w .start + 0 ≡ w .start = omega arith in
         getD-take (w .end - w .start) (drop (w .start) line) 0 0 (omega arith) ∙ getD-drop (w .start) line 0 0 ∙ ap (λ (n : ℕ). getD line n 0) here
 
--- a word that is a number or none
-no-number : (w : List ℕ) (t : Bool) → isNumber w ≡ t → cond t (Value (valueOf w)) NoNumber ≡ NoNumber → t ≡ false
-no-number w true e is = let z : _≡_ {A = ℕ} 0 1 = cc in absurd (omega arith)
-no-number w false e is = refl
+-- a walk over the words of a line: the word at hand, and how many came before it
+pub record Walk (line : List ℕ) (at : ℕ) (w : Word) (i : ℕ) : Type 0 where
+  pub here : w ≡ wordAt line at
+  pub low : i ≤ at
 
-some-number : (w : List ℕ) (v : ℕ) (t : Bool) → isNumber w ≡ t → cond t (Value (valueOf w)) NoNumber ≡ Value v → (t ≡ true) × (valueOf w ≡ v)
-some-number w v true e is = (refl, cc)
-some-number w v false e is = let z : _≡_ {A = ℕ} 0 1 = cc in absurd (omega arith)
+module _ (line : List ℕ) (at : ℕ) (w : Word) (i : ℕ) (is : Walk line at w i) (some : w .start < w .end) where
+  pub walk-places : (at ≤ w .start) × (w .end ≤ length line)
+  walk-places =
+      let start : w .start ≡ past isBlank line at = ap (λ (z : Word). z .start) (is .here) in
+      (omega (arith, word-places line at w (is .here)), word-places line at w (is .here) .1)
 
--- as many numbers as asked for, or none
-module _ (count : ℕ) (ws : List (List ℕ)) where
-  pub many-numbers : 24 < count → numbersOf count ws ≡ noNumbers
-  many-numbers more = rw (lt-leb count 24 more)
+  pub walk-next : (v : Word) → v ≡ wordAt line (w .end) → Walk line (w .end) v (i + 1)
+  walk-next v e = record { here = e; low = omega (arith, walk-places, is .low) }
 
-  other-count : (length ws ≡ count → ⊥) → numbersOf count ws ≡ noNumbers
-  other-count n = rw (ne-eqb (length ws) count n, and-false (leb count 24))
+-- the place of a word, found on a walk
+module _ (text word : List ℕ) (at : ℕ) (w : Word) (i : ℕ) (is : Walk text at w i) where
+  pub index-end : indexOf word (words text) ≡ i + indexOf word (words (drop at text)) → w .end ≤ w .start → i ≡ indexOf word (words text)
+  unfolding indexOf
+  index-end found done = sym (found ∙ rw (next-empty text at w (is .here) done) (omega arith))
 
-  bad-word : allNumbers ws ≡ false → numbersOf count ws ≡ noNumbers
-  bad-word e = rw (e, and-false (leb count 24 && eqb (length ws) count))
+  module _ (some : w .start < w .end) (found : indexOf word (words text) ≡ i + indexOf word (words (drop at text))) where
+    pub index-here : sameWord (wordBytes text at w (is .here)) word ≡ true → i ≡ indexOf word (words text)
+    unfolding indexOf
+    index-here e = sym (found ∙ rw (next-cons text at w (is .here) some, e) (omega arith))
 
--- the first i words are numbers, and stand in the values; the others are still to be read
-pub record Counting (ws rest : List (List ℕ)) (count : ℕ) (values : List ℕ) (i : ℕ) : Type 0 where
-  pub low : i ≤ count
-  pub most : count ≤ 24
-  pub size : length values ≡ 24
-  pub left : length ws ≡ i + length rest
-  pub good : allNumbers ws ≡ allNumbers rest
-  pub worth : valuesOf ws ≡ take i values ++ valuesOf rest
-  pub zeros : drop i values ≡ replicate (24 - i) 0
+    pub index-next : sameWord (wordBytes text at w (is .here)) word ≡ false → indexOf word (words text) ≡ i + 1 + indexOf word (words (drop (w .end) text))
+    unfolding indexOf
+    index-next e = found ∙ rw (next-cons text at w (is .here) some, e) (omega arith)
 
-pub counting-start : (ws : List (List ℕ)) (count : ℕ) → count ≤ 24 → Counting ws ws count (replicate 24 0) 0
-counting-start ws count most =
-    record { low = omega arith; most = most; size = refl; left = omega arith; good = refl; worth = refl; zeros = refl }
+-- the word of a number, counted on the way
+nth-step : (bytes : List ℕ) (ws later : List (List ℕ)) (m : ℕ) → ws ≡ before bytes later → (bytes ≡ [] → ws ≡ []) → getD ws (suc m) [] ≡ getD later m []
+nth-step [] ws later m e empty = let gone : later ≡ [] = sym e ∙ empty refl in rw (e, gone)
+nth-step (b ∷ bs) ws later m e empty = rw e
 
-module _ (ws rest : List (List ℕ)) (count : ℕ) (values : List ℕ) (i : ℕ) (is : Counting ws rest count values i) where
-  short : i < count → rest ≡ [] → numbersOf count ws ≡ noNumbers
-  short more e = other-count count ws (λ z. absurd (omega (arith, is .left, ap length e)))
+nth-first : (bytes : List ℕ) (ws later : List (List ℕ)) → ws ≡ before bytes later → (bytes ≡ [] → ws ≡ []) → bytes ≡ getD ws 0 []
+nth-first [] ws later e empty = rw (empty refl)
+nth-first (b ∷ bs) ws later e empty = rw e
 
-  counting-over : (w : List ℕ) (later : List (List ℕ)) → rest ≡ w ∷ later → isNumber w ≡ false → numbersOf count ws ≡ noNumbers
-  unfolding allNumbers
-  counting-over w later e bad = bad-word count ws (is .good ∙ rw (e, bad))
+module _ (text : List ℕ) (at n i : ℕ) (w : Word) (is : w ≡ wordAt text at) (found : getD (words text) n [] ≡ getD (words (drop at text)) (n - i) []) where
+  pub nth-next : i < n → getD (words text) n [] ≡ getD (words (drop (w .end) text)) (n - (i + 1)) []
+  nth-next low =
+      let less : n - i ≡ suc (n - (i + 1)) = omega arith in
+      found ∙ rw less (nth-step (wordBytes text at w is) _ _ (n - (i + 1)) (next-is text at w is) (next-none text at w is))
 
-  -- the next word is no number
-  pub counting-bad : (w : List ℕ) (later : List (List ℕ)) → rest ≡ before w later → (w ≡ [] → rest ≡ []) → i < count → numberOf w ≡ NoNumber → numbersOf count ws ≡ noNumbers
-  counting-bad [] later e end more bad = short more (end refl)
-  counting-bad (b ∷ bs) later e end more bad = counting-over (b ∷ bs) later e (no-number (b ∷ bs) (isNumber (b ∷ bs)) refl bad)
-
-  pub counting-next : (w : List ℕ) (later : List (List ℕ)) (v : ℕ) → rest ≡ before w later → i < count → numberOf w ≡ Value v → Counting ws later count (set values i v) (i + 1)
-  unfolding allNumbers valuesOf
-  counting-next [] later v e more is-value = let z : _≡_ {A = ℕ} 0 1 = cc in absurd (omega arith)
-  counting-next (b ∷ bs) later v e more is-value =
-      let w : List ℕ = b ∷ bs in
-      let good = some-number w v (isNumber w) refl is-value in
-      let place : i < length values = omega (arith, is .most, is .size) in
-      let less : 24 - i ≡ suc (24 - suc i) = omega (arith, is .most) in
-      let there : getD values i 0 ∷ drop (suc i) values ≡ 0 ∷ replicate (24 - suc i) 0 = sym (drop-cons values i 0 place) ∙ is .zeros ∙ rw less in
-      let zeros : drop (suc i) values ≡ replicate (24 - suc i) 0 = cc in
-      record {
-        low = omega arith;
-        most = is .most;
-        size = length-set values i v ∙ is .size;
-        left = omega (arith, is .left, ap length e);
-        good = is .good ∙ rw (e, good .0);
-        worth = is .worth ∙ rw (e, add-one, take-suc-set values i v place, good .1) (sym (append-assoc (take i values) (v ∷ []) (valuesOf later)));
-        zeros = rw (add-one, drop-set-lt (suc i) values i v (omega arith)) zeros;
-      }
-
-  -- all are read: a word too many, or none
-  pub counting-more : count ≤ i → (rest ≡ [] → ⊥) → numbersOf count ws ≡ noNumbers
-  counting-more done some = other-count count ws (λ z. some (empty rest (omega (arith, is .low, is .left))))
-    where
-      empty : (l : List (List ℕ)) → length l ≡ 0 → l ≡ []
-      empty [] e = refl
-      empty (x ∷ l) e = absurd (omega arith)
-
-  pub counting-end : count ≤ i → rest ≡ [] → numbersOf count ws ≡ record { good = true; values = values }
-  unfolding allNumbers valuesOf
-  counting-end done e =
-      let all : i ≡ count = omega (arith, is .low) in
-      let read : valuesOf ws ≡ take i values = is .worth ∙ rw e (append-nil (take i values)) in
-      let worth : valuesOf ws ++ replicate (24 - count) 0 ≡ values = rw (← all, read, ← is .zeros) (take-append-drop i values) in
-      rw (le-leb count 24 (is .most), eq-eqb (length ws) count (omega (arith, is .left, ap length e)), is .good, e, worth)
+  pub nth-here : n ≤ i → IsWord (getD (words text) n []) text w
+  nth-here done =
+      let none-left : n - i ≡ 0 = omega arith in
+      let places = word-places text at w is in
+      record { order = places .0; inside = places .1; is = nth-first (wordBytes text at w is) _ _ (next-is text at w is) (next-none text at w is) ∙ sym (found ∙ rw none-left) }

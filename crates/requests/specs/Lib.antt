@@ -1,4 +1,4 @@
 pub mod Places
 pub mod Words
+pub mod Forms
 pub mod Requests
-pub mod InFile

@@ -1,131 +1,110 @@
 -- What a line asks.
-use mathlib.Core.Bool.{Bool, true, cond, _&&_}
+use mathlib.Core.Path.{_≡_}
+use mathlib.Core.Bool.{Bool, cond, not, _&&_}
 use mathlib.Core.List.{List, [], _∷_, map}
-use Prim.Native.Nat.{ℕ, _-_}
+use Prim.Native.Nat.{ℕ, suc, _-_}
 use lib.Dec.{eqb, leb, ltb}
-use lib.ListN.{length, take, drop, getD, replicate}
-use Rattle.text.specs.Text.{text}
-use Rattle.timing.specs.declared.clocks.DramCycles.{DramCycles}
+use lib.ListN.{length, take, getD}
 use Rattle.timing.specs.declared.kinds.CommandKind.{CommandKind}
 use Rattle.timing.specs.declared.kinds.CommandKind.the-variants.{Act, Rd, Wr, Prepb, Preab, Refab, Refpb}
 use Rattle.timing.specs.Kinds.{codeOf}
 use Rattle.journal.specs.Listing.{nameOf}
 use Rattle.requests.specs.declared.words.Number.{Number}
 use Rattle.requests.specs.declared.words.Number.the-variants.{Value, NoNumber}
-use Rattle.requests.specs.declared.words.Numbers.{Numbers}
-use Rattle.requests.specs.declared.requests.Kinded.{Kinded}
-use Rattle.requests.specs.declared.requests.Parsed.{Parsed}
-use Rattle.requests.specs.declared.requests.Request.{Request}
-use Rattle.requests.specs.declared.requests.Request.the-variants.{
-  Nothing,
-  Malformed,
-  Open,
-  Offer,
-  Ask,
-  Back,
-  Status,
-  Stretch,
-  Lend,
-  Restore,
-  Poke,
-  Bytes,
-}
-use Rattle.requests.specs.Words.{words, sameWord, numberOf, numbersOf}
+use Rattle.requests.specs.declared.forms.Form.{Form}
+use Rattle.requests.specs.declared.forms.Place.{Place}
+use Rattle.requests.specs.declared.forms.Request.{Request}
+use Rattle.requests.specs.declared.forms.Request.the-variants.{Nothing, Malformed}
+use Rattle.requests.specs.declared.requests.Asked.{Asked}
+use Rattle.requests.specs.declared.requests.Count.{Count}
+use Rattle.requests.specs.declared.requests.Count.the-variants.{Numbers, Unread}
+use Rattle.requests.specs.Words.{words, indexOf, numberOf}
+use Rattle.requests.specs.Forms.{wordOf, formOf, requests, formAt, placeAt, isWhole}
 
--- a kind: its name in capitals, or a number
-unfoldable pub namedKind : List CommandKind → List ℕ → Number
-namedKind [] word = numberOf word
-namedKind (k ∷ ks) word = cond (sameWord word (nameOf k)) (Value (codeOf k)) (namedKind ks word)
+-- a kind's name in capitals stands for its code number
+abbrev pub kinds : List CommandKind
+kinds = Act ∷ Rd ∷ Wr ∷ Prepb ∷ Preab ∷ Refab ∷ Refpb ∷ []
 
-abbrev pub kindNumber : List ℕ → Number
-kindNumber word = namedKind (Act ∷ Rd ∷ Wr ∷ Prepb ∷ Preab ∷ Refab ∷ Refpb ∷ []) word
+unfoldable pub kindIndex : List ℕ → ℕ
+kindIndex word = indexOf word (map nameOf kinds)
 
--- a kind, and so many numbers behind it
-abbrev pub kindedOf : ℕ → List (List ℕ) → Kinded
-kindedOf count [] = record { kind = NoNumber; numbers = numbersOf count [] }
-kindedOf count (k ∷ ws) = record { kind = kindNumber k; numbers = numbersOf count ws }
+abbrev pub within : ℕ → Number → Number
+within most (Value n) = cond (leb n most) (Value n) NoNumber
+within most NoNumber = NoNumber
 
-abbrev pub value : Numbers → ℕ → ℕ
-value n i = getD (n .values) i 0
+-- A WORD AT ITS PLACE: a kind's name where one may stand, or a number up to the place's most
+unfoldable pub numberAt : Place → List ℕ → Number
+numberAt p word =
+    let k = kindIndex word in
+    cond (p .named && ltb k 7) (Value (codeOf (getD kinds k Act))) (within (p .most) (numberOf word))
 
-abbrev pub ifGood : Numbers → Request → Request
-ifGood n request = cond (n .good) request Malformed
+-- words as numbers, if each of them is one
+pub data Read : Type 0 where
+  these : List ℕ → Read
+  unread : Read
 
-abbrev pub offerForm : Kinded → Request
-offerForm k = offerKind (k .kind) (k .numbers)
-  where
-    offerKind : Number → Numbers → Request
-    offerKind (Value kind) n = ifGood n (Offer kind (value n 0) (value n 1) (value n 2))
-    offerKind NoNumber n = Malformed
+abbrev pub also : Number → Read → Read
+also (Value n) (these ns) = these (n ∷ ns)
+also (Value n) unread = unread
+also NoNumber r = unread
 
-abbrev pub askForm : Kinded → Request
-askForm k = askKind (k .kind) (k .numbers)
-  where
-    askKind : Number → Numbers → Request
-    askKind (Value kind) n = ifGood n (Ask kind (value n 0) (value n 1))
-    askKind NoNumber n = Malformed
+-- the words from place i on
+unfoldable pub readFrom : Form → ℕ → List (List ℕ) → Read
+readFrom f i [] = these []
+readFrom f i (w ∷ ws) = also (numberAt (placeAt f i) w) (readFrom f (suc i) ws)
 
-abbrev pub lendForm : Numbers → Request
-lendForm n = ifGood n (Lend (value n 0))
+-- WHAT IS ASKED: a row of the table, and numbers
+pub record Asking : Type 0 where
+  pub request : Request
+  pub numbers : List ℕ
 
-abbrev pub restoreForm : Numbers → Request
-restoreForm n = ifGood n (Restore (value n 0))
+abbrev pub nothing : Asking
+nothing = record { request = Nothing; numbers = [] }
 
-abbrev pub pokeForm : Numbers → Request
-pokeForm n = ifGood n (cond (leb (value n 1) 255) (Poke (value n 0) (value n 1)) Malformed)
+abbrev pub malformed : Asking
+malformed = record { request = Malformed; numbers = [] }
 
-abbrev pub bytesForm : Numbers → Request
-bytesForm n = ifGood n (Bytes (value n 0) (value n 1))
+-- the row of a first word; a row that is for memory only is malformed where the journal is a file
+unfoldable pub named : Bool → List ℕ → Form
+named inFile word = let f = formAt (indexOf word (map wordOf requests)) in cond (inFile && not (f .7)) (formOf Malformed) f
 
--- the forms by their first word, but `open`
-abbrev pub requestOf : List ℕ → List (List ℕ) → Request
-requestOf verb ws =
-    cond (sameWord verb (text "offer")) (offerForm (kindedOf 3 ws))
-    (cond (sameWord verb (text "ask")) (askForm (kindedOf 2 ws))
-    (cond (sameWord verb (text "back")) (ifGood (numbersOf 0 ws) Back)
-    (cond (sameWord verb (text "status")) (ifGood (numbersOf 0 ws) Status)
-    (cond (sameWord verb (text "stretch")) (ifGood (numbersOf 0 ws) Stretch)
-    (cond (sameWord verb (text "lend")) (lendForm (numbersOf 1 ws))
-    (cond (sameWord verb (text "restore")) (restoreForm (numbersOf 1 ws))
-    (cond (sameWord verb (text "poke")) (pokeForm (numbersOf 2 ws))
-    (cond (sameWord verb (text "bytes")) (bytesForm (numbersOf 2 ws)) Malformed))))))))
-
-abbrev pub gap : ℕ → DramCycles
-gap n = record { 0 = n }
-
-abbrev pub withoutGaps : Request → Parsed
-withoutGaps request = record { request = request; gaps = replicate 20 (gap 0) }
-
--- `open`: ratio, ranks, mode, a client of 32 bits, and twenty gaps of 16 bits
-unfoldable pub allAtMost : ℕ → List ℕ → Bool
-allAtMost most [] = true
-allAtMost most (n ∷ ns) = leb n most && allAtMost most ns
-
-abbrev pub openForm : Numbers → Parsed
-openForm n =
-    cond (n .good && leb (value n 3) 4294967295 && allAtMost 65535 (drop 4 (n .values)))
-    (record { request = Open (value n 0) (value n 1) (value n 2) (value n 3); gaps = map gap (drop 4 (n .values)) })
-    (withoutGaps Malformed)
+-- the numbers fill the row's places, or the line is malformed
+unfoldable pub filled : Form → Read → Asking
+filled f (these ns) = cond (isWhole f (length ns)) (record { request = f .0; numbers = ns }) malformed
+filled f unread = malformed
 
 -- no word, or a first word that begins with `#`, asks nothing
-abbrev pub askedBy : List (List ℕ) → Parsed
-askedBy [] = withoutGaps Nothing
-askedBy (verb ∷ ws) =
-    cond (eqb (getD verb 0 0) 35) (withoutGaps Nothing) (cond (sameWord verb (text "open")) (openForm (numbersOf 24 ws)) (withoutGaps (requestOf verb ws)))
+unfoldable pub askedBy : Bool → List (List ℕ) → Asking
+askedBy inFile [] = nothing
+askedBy inFile (word ∷ ws) = let f = named inFile word in cond (eqb (getD word 0 0) 35) nothing (filled f (readFrom f 0 ws))
 
 -- a carriage return right before a newline is ignored
 abbrev pub withoutReturn : List ℕ → List ℕ
 withoutReturn line = let last = length line - 1 in cond (eqb (getD line last 0) 13) (take last line) line
 
 -- a line that a newline ended
-abbrev pub whole : List ℕ → Parsed
-whole line = cond (ltb 4096 (length line)) (withoutGaps Malformed) (askedBy (words (withoutReturn line)))
+abbrev pub whole : List ℕ → Bool → Asking
+whole line inFile = cond (ltb 4096 (length line)) malformed (askedBy inFile (words (withoutReturn line)))
 
 -- what stands behind the last newline was cut short, whatever it says
-abbrev pub cutShort : List ℕ → Parsed
-cutShort [] = withoutGaps Nothing
-cutShort (b ∷ bs) = withoutGaps Malformed
+abbrev pub cutShort : List ℕ → Asking
+cutShort [] = nothing
+cutShort (b ∷ bs) = malformed
 
--- A LINE, and whether a newline ended it
-unfoldable pub asked : List ℕ → Bool → Parsed
-asked line ended = cond ended (whole line) (cutShort line)
+-- A LINE, whether a newline ended it, and whether the journal is a file
+unfoldable pub asked : List ℕ → Bool → Bool → Asking
+asked line ended inFile = cond ended (whole line inFile) (cutShort line)
+
+-- the program's answer: the request, and its numbers at the front of the array that was lent
+abbrev pub IsRead : Read → Count → List ℕ → Type 0
+IsRead (these ns) r after = (r ≡ Numbers (length ns)) × (take (length ns) after ≡ ns)
+IsRead unread r after = r ≡ Unread
+
+pub record Asks (a : Asking) (r : Asked) (after : List ℕ) : Type 0 where
+  pub request : r .request ≡ a .request
+  pub count : r .count ≡ length (a .numbers)
+  pub numbers : take (r .count) after ≡ a .numbers
+
+-- whatever was read
+abbrev pub Fills : Form → Count → Asked → Type 0
+Fills f count r = (read : Read) (after : List ℕ) → IsRead read count after → Asks (filled f read) r after

@@ -1,13 +1,13 @@
 -- A line's words, and words as numbers.
+use mathlib.Core.Path.{_≡_}
 use mathlib.Core.Bool.{Bool, true, false, cond, not, _&&_, _||_}
-use mathlib.Core.List.{List, [], _∷_, _++_}
-use Prim.Native.Nat.{ℕ, _+_, _-_, _*_}
+use mathlib.Core.List.{List, [], _∷_}
+use Prim.Native.Nat.{ℕ, suc, _+_, _-_, _*_, _≤_}
 use lib.Dec.{eqb, leb}
-use lib.ListN.{length, replicate}
+use lib.ListN.{length, take, drop}
 use Rattle.requests.specs.declared.words.Word.{Word}
 use Rattle.requests.specs.declared.words.Number.{Number}
 use Rattle.requests.specs.declared.words.Number.the-variants.{Value, NoNumber}
-use Rattle.requests.specs.declared.words.Numbers.{Numbers}
 use Rattle.requests.specs.Places.{past}
 
 -- a space or a tab
@@ -67,18 +67,13 @@ isNumber word = not (eqb (length word) 0) && allDigits word && leb (valueOf word
 abbrev pub numberOf : List ℕ → Number
 numberOf word = cond (isNumber word) (Value (valueOf word)) NoNumber
 
-unfoldable pub allNumbers : List (List ℕ) → Bool
-allNumbers [] = true
-allNumbers (w ∷ ws) = isNumber w && allNumbers ws
+-- the place of the first word that is the same, or behind them all
+unfoldable pub indexOf : List ℕ → List (List ℕ) → ℕ
+indexOf word [] = 0
+indexOf word (w ∷ ws) = cond (sameWord w word) 0 (suc (indexOf word ws))
 
-unfoldable pub valuesOf : List (List ℕ) → List ℕ
-valuesOf [] = []
-valuesOf (w ∷ ws) = valueOf w ∷ valuesOf ws
-
--- words as just so many numbers, at most 24, with zeros behind them
-abbrev pub noNumbers : Numbers
-noNumbers = record { good = false; values = replicate 24 0 }
-
-abbrev pub numbersOf : ℕ → List (List ℕ) → Numbers
-numbersOf count ws =
-    cond (leb count 24 && eqb (length ws) count && allNumbers ws) (record { good = true; values = valuesOf ws ++ replicate (24 - count) 0 }) noNumbers
+-- these bytes stand at a word's place
+pub record IsWord (bytes line : List ℕ) (w : Word) : Type 0 where
+  pub order : w .start ≤ w .end
+  pub inside : w .end ≤ length line
+  pub is : take (w .end - w .start) (drop (w .start) line) ≡ bytes

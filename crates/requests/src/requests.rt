@@ -1,59 +1,31 @@
-// What a line asks.
+// What a line asks: a row of the table, and the numbers that its words stand for.
 ghost use mathlib.Core.Path.{_≡_};
-ghost use mathlib.Core.Bool.{true};
-ghost use mathlib.Core.List.{map};
-ghost use lib.ListN.{drop};
+ghost use Prim.Native.Nat.{_≤_};
+ghost use lib.ListN.{length, drop};
 ghost use Rattle.requests.specs.Words.{words};
-ghost use Rattle.requests.specs.Requests.{kindNumber, kindedOf, ifGood, offerForm, askForm, lendForm, restoreForm, pokeForm, bytesForm, requestOf, gap, withoutGaps, allAtMost, openForm, askedBy, asked};
+ghost use Rattle.requests.specs.Requests.{within, numberAt, readFrom, IsRead, named, Fills, askedBy, asked, Asks};
+use crate::forms::Form;
+use crate::forms::Place;
+use crate::forms::Request;
+use crate::forms::WORDS;
+use crate::forms::form_at;
+use crate::forms::is_whole;
+use crate::forms::place_at;
 use crate::words::Number;
-use crate::words::Numbers;
+use crate::words::index_of;
 use crate::words::next_word;
 use crate::words::number_of;
-use crate::words::numbers_from;
-use crate::words::same;
-use timing::clocks::DramCycles;
-use timing::kinds::CommandKind;
 
-pub enum Request {
-    // A blank line or a comment.
-    Nothing,
-    Malformed,
-    Open {
-        ratio: u64,
-        ranks: u64,
-        mode: u64,
-        client: u32,
-    },
-    Offer {
-        kind: u64,
-        rank: u64,
-        bank: u64,
-        cycle: u64,
-    },
-    Ask {
-        kind: u64,
-        rank: u64,
-        bank: u64,
-    },
-    Back,
-    Status,
-    Stretch,
-    Lend(u64),
-    Restore(u64),
-    Poke(u64, u8),
-    Bytes(u64, u64),
-}
-
-// A request, and beside it the gaps of an opening.
-pub struct Parsed {
+// A request; its numbers stand at the front of the array that was lent.
+pub struct Asked {
     pub request: Request,
-    pub gaps: [DramCycles; 20],
+    pub count: usize,
 }
 
-// A kind, and the numbers behind it.
-struct Kinded {
-    kind: Number,
-    numbers: Numbers,
+// How many words were read as numbers, or that one was none.
+enum Count {
+    Numbers(usize),
+    Unread,
 }
 
 const MAX_LINE: usize = 4096;
@@ -62,255 +34,140 @@ const RETURN: u8 = 13;
 
 const COMMENT: u8 = 35;
 
-const MAX_CLIENT: u64 = 4294967295;
+// The kinds' names, in the order of their code numbers 1 to 7.
+const KINDS: [u8; 33] = *b"ACT RD WR PREPB PREAB REFAB REFPB";
 
-const MAX_GAP: u64 = 65535;
-
-fn without_gaps(request: Request) -> Parsed
-    ensures { λ r. ⌜ r ≡ withoutGaps request ⌝ }
+fn within(number: Number, most: u64) -> Number
+    ensures { λ r. ⌜ r ≡ within most number ⌝ }
 {
-    Parsed {
-        request,
-        gaps: [DramCycles(0); 20],
-    }
-}
-
-// A kind as its name in capitals or as a number.
-fn kind_number(word: &[u8]) -> Number
-    ensures { λ r. ⌜ r ≡ kindNumber (now (word .entry)) ⌝ }
-{
-    if same(word, b"ACT") {
-        return Number::Value(CommandKind::ACT);
-    }
-    if same(word, b"RD") {
-        return Number::Value(CommandKind::RD);
-    }
-    if same(word, b"WR") {
-        return Number::Value(CommandKind::WR);
-    }
-    if same(word, b"PREPB") {
-        return Number::Value(CommandKind::PREPB);
-    }
-    if same(word, b"PREAB") {
-        return Number::Value(CommandKind::PREAB);
-    }
-    if same(word, b"REFAB") {
-        return Number::Value(CommandKind::REFAB);
-    }
-    if same(word, b"REFPB") {
-        return Number::Value(CommandKind::REFPB);
-    }
-    number_of(word)
-}
-
-fn kinded_from(line: &[u8], from: usize, count: usize) -> Kinded
-    ensures { λ r. ⌜ r ≡ kindedOf count (words (drop from (now (line .entry)))) ⌝ }
-{
-    let word = next_word(line, from);
-    let start = word.start;
-    let end = word.end;
-    let kind = kind_number(&line[start..end]);
-    let numbers = numbers_from(line, end, count);
-    Kinded { kind, numbers }
-}
-
-fn offer_form(read: Kinded) -> Request
-    ensures { λ r. ⌜ r ≡ offerForm read ⌝ }
-{
-    let kind = read.kind;
-    let numbers = read.numbers;
-    let Number::Value(code) = kind else {
-        return Request::Malformed;
+    let Number::Value(value) = number else {
+        return number;
     };
-    if !numbers.good {
-        return Request::Malformed;
+    if most < value {
+        return Number::NoNumber;
     }
-    Request::Offer {
-        kind: code,
-        rank: numbers.values[0],
-        bank: numbers.values[1],
-        cycle: numbers.values[2],
-    }
+    number
 }
 
-fn ask_form(read: Kinded) -> Request
-    ensures { λ r. ⌜ r ≡ askForm read ⌝ }
+// A word at its place: a number up to the most, or a kind's name.
+fn number_at(word: &[u8], place: Place) -> Number
+    ensures { λ r. ⌜ r ≡ numberAt place (now (word .entry)) ⌝ }
 {
-    let kind = read.kind;
-    let numbers = read.numbers;
-    let Number::Value(code) = kind else {
-        return Request::Malformed;
-    };
-    if !numbers.good {
-        return Request::Malformed;
+    let number = within(number_of(word), place.most);
+    if !place.named {
+        return number;
     }
-    Request::Ask {
-        kind: code,
-        rank: numbers.values[0],
-        bank: numbers.values[1],
+    let kind = index_of(&KINDS, word);
+    if 7 <= kind {
+        return number;
     }
+    Number::Value(kind as u64 + 1)
 }
 
-// Malformed unless just so many numbers follow.
-fn if_good(read: Numbers, request: Request) -> Request
-    ensures { λ r. ⌜ r ≡ ifGood read request ⌝ }
+// The words from a place to the line's end, each read at its place of the form.
+fn read_numbers(line: &[u8], from: usize, form: Form, numbers: &mut [u64]) -> Count
+    requires { ⌜ (length (now line) ≤ 4096) × (length (now numbers) ≡ 4096) ⌝ }
+    ensures { λ r. ⌜ IsRead (readFrom form 0 (words (drop from (now (line .entry))))) r (now (numbers .exit)) ⌝ }
 {
-    if !read.good {
-        return Request::Malformed;
-    }
-    request
-}
-
-fn lend_form(read: Numbers) -> Request
-    ensures { λ r. ⌜ r ≡ lendForm read ⌝ }
-{
-    if_good(read, Request::Lend(read.values[0]))
-}
-
-fn restore_form(read: Numbers) -> Request
-    ensures { λ r. ⌜ r ≡ restoreForm read ⌝ }
-{
-    if_good(read, Request::Restore(read.values[0]))
-}
-
-fn poke_form(read: Numbers) -> Request
-    ensures { λ r. ⌜ r ≡ pokeForm read ⌝ }
-{
-    if !read.good {
-        return Request::Malformed;
-    }
-    let values = read.values;
-    if 255 < values[1] {
-        return Request::Malformed;
-    }
-    Request::Poke(values[0], values[1] as u8)
-}
-
-fn bytes_form(read: Numbers) -> Request
-    ensures { λ r. ⌜ r ≡ bytesForm read ⌝ }
-{
-    if_good(read, Request::Bytes(read.values[0], read.values[1]))
-}
-
-// What the words behind the first one make of it.
-fn request_of(verb: &[u8], line: &[u8], from: usize) -> Request
-    ensures { λ r. ⌜ r ≡ requestOf (now (verb .entry)) (words (drop from (now (line .entry)))) ⌝ }
-{
-    if same(verb, b"offer") {
-        return offer_form(kinded_from(line, from, 3));
-    }
-    if same(verb, b"ask") {
-        return ask_form(kinded_from(line, from, 2));
-    }
-    if same(verb, b"back") {
-        return if_good(numbers_from(line, from, 0), Request::Back);
-    }
-    if same(verb, b"status") {
-        return if_good(numbers_from(line, from, 0), Request::Status);
-    }
-    if same(verb, b"stretch") {
-        return if_good(numbers_from(line, from, 0), Request::Stretch);
-    }
-    if same(verb, b"lend") {
-        return lend_form(numbers_from(line, from, 1));
-    }
-    if same(verb, b"restore") {
-        return restore_form(numbers_from(line, from, 1));
-    }
-    if same(verb, b"poke") {
-        return poke_form(numbers_from(line, from, 2));
-    }
-    if same(verb, b"bytes") {
-        return bytes_form(numbers_from(line, from, 2));
-    }
-    Request::Malformed
-}
-
-// The gaps behind the four numbers of an opening.
-fn gaps_of(values: [u64; 24]) -> [DramCycles; 20]
-    requires { ⌜ allAtMost 65535 (drop 4 values) ≡ true ⌝ }
-    ensures { λ r. ⌜ r ≡ map gap (drop 4 values) ⌝ }
-{
-    let mut gaps = [DramCycles(0); 20];
+    let mut at = from;
+    let mut word = next_word(line, at);
     let mut i = 0;
-    while i < 20 {
-        let gap = DramCycles(values[4 + i] as u16);
-        gaps[i] = gap;
+    while word.start < word.end {
+        let start = word.start;
+        let end = word.end;
+        let number = number_at(&line[start..end], place_at(form, i));
+        let Number::Value(value) = number else {
+            return Count::Unread;
+        };
+        numbers[i] = value;
+        at = end;
+        let next = next_word(line, at);
+        word = next;
         i += 1;
     }
-    gaps
+    Count::Numbers(i)
 }
 
-fn gaps_fit(values: [u64; 24]) -> bool
-    ensures { λ r. ⌜ r ≡ allAtMost 65535 (drop 4 values) ⌝ }
+fn nothing() -> Asked
+    ensures { λ r. ⌜ r ≡ record { request = Request.Nothing; count = 0 } ⌝ }
 {
-    let mut i = 4;
-    while i < 24 {
-        if MAX_GAP < values[i] {
-            return false;
-        }
-        i += 1;
+    Asked {
+        request: Request::Nothing,
+        count: 0,
     }
-    true
 }
 
-fn open_form(read: Numbers) -> Parsed
-    ensures { λ r. ⌜ r ≡ openForm read ⌝ }
+fn malformed() -> Asked
+    ensures { λ r. ⌜ r ≡ record { request = Request.Malformed; count = 0 } ⌝ }
 {
-    let values = read.values;
-    if !read.good {
-        return without_gaps(Request::Malformed);
+    Asked {
+        request: Request::Malformed,
+        count: 0,
     }
-    if MAX_CLIENT < values[3] {
-        return without_gaps(Request::Malformed);
+}
+
+// The row of a first word; in a file a row may be malformed.
+fn named(word: &[u8], in_file: bool) -> Form
+    ensures { λ r. ⌜ r ≡ named «in_file» (now (word .entry)) ⌝ }
+{
+    let form = form_at(index_of(&WORDS, word));
+    if !in_file {
+        return form;
     }
-    if !gaps_fit(values) {
-        return without_gaps(Request::Malformed);
+    if form.7 {
+        return form;
     }
-    let request = Request::Open {
-        ratio: values[0],
-        ranks: values[1],
-        mode: values[2],
-        client: values[3] as u32,
+    form_at(0)
+}
+
+fn filled(form: Form, count: Count) -> Asked
+    ensures { λ r. ⌜ Fills form count r ⌝ }
+{
+    let Count::Numbers(n) = count else {
+        return malformed();
     };
-    let gaps = gaps_of(values);
-    Parsed { request, gaps }
+    if !is_whole(form, n) {
+        return malformed();
+    }
+    let request = form.0;
+    Asked { request, count: n }
 }
 
-fn parse(line: &[u8]) -> Parsed
-    ensures { λ r. ⌜ r ≡ askedBy (words (now (line .entry))) ⌝ }
+fn parse(line: &[u8], in_file: bool, numbers: &mut [u64]) -> Asked
+    requires { ⌜ (length (now line) ≤ 4096) × (length (now numbers) ≡ 4096) ⌝ }
+    ensures { λ r. ⌜ Asks (askedBy «in_file» (words (now (line .entry)))) r (now (numbers .exit)) ⌝ }
 {
     let word = next_word(line, 0);
     let start = word.start;
     let end = word.end;
     if end <= start {
-        return without_gaps(Request::Nothing);
+        return nothing();
     }
     if line[start] == COMMENT {
-        return without_gaps(Request::Nothing);
+        return nothing();
     }
-    if same(&line[start..end], b"open") {
-        return open_form(numbers_from(line, end, 24));
-    }
-    without_gaps(request_of(&line[start..end], line, end))
+    let form = named(&line[start..end], in_file);
+    let count = read_numbers(line, end, form, numbers);
+    filled(form, count)
 }
 
-// A line as it came. What no newline ended was cut short. A carriage return counts for a line's length, and is ignored at its end.
-pub fn parse_line(line: &[u8], ended: bool) -> Parsed
-    ensures { λ r. ⌜ r ≡ asked (now (line .entry)) ended ⌝ }
+// A line as it came. What no newline ended was cut short. A carriage return counts for a line's length, and is ignored at its end. Where
+// the journal is a file, nothing may damage it or wind it back.
+pub fn parse_line(line: &[u8], ended: bool, in_file: bool, numbers: &mut [u64; 4096]) -> Asked
+    ensures { λ r. ⌜ Asks (asked (now (line .entry)) ended «in_file») r (now (numbers .exit)) ⌝ }
 {
     if line.len() == 0 {
-        return without_gaps(Request::Nothing);
+        return nothing();
     }
     if !ended {
-        return without_gaps(Request::Malformed);
+        return malformed();
     }
     if MAX_LINE < line.len() {
-        return without_gaps(Request::Malformed);
+        return malformed();
     }
     let last = line.len() - 1;
     if line[last] == RETURN {
-        return parse(&line[..last]);
+        return parse(&line[..last], in_file, numbers);
     }
-    parse(line)
+    parse(line, in_file, numbers)
 }

@@ -1,10 +1,11 @@
 // A line taken apart: words separated by spaces and tabs, and words as numbers.
 ghost use mathlib.Core.Path.{_≡_};
 ghost use mathlib.Core.Bool.{cond};
-ghost use lib.ListN.{drop};
+ghost use mathlib.Core.List.{[]};
+ghost use lib.ListN.{getD};
 ghost use Prim.Native.Nat.{_-_};
 ghost use Rattle.requests.specs.Places.{past};
-ghost use Rattle.requests.specs.Words.{isBlank, inWord, words, wordAt, sameWord, isDigit, numberOf, noNumbers, numbersOf};
+ghost use Rattle.requests.specs.Words.{isBlank, inWord, words, indexOf, IsWord, wordAt, sameWord, isDigit, numberOf};
 
 // A word's place in its line. An empty one stands where no word is left.
 pub struct Word {
@@ -15,12 +16,6 @@ pub struct Word {
 pub enum Number {
     Value(u64),
     NoNumber,
-}
-
-// The numbers at the end of a line, if they are just as many as asked for.
-pub struct Numbers {
-    pub good: bool,
-    pub values: [u64; 24],
 }
 
 const SPACE: u8 = 32;
@@ -122,39 +117,39 @@ pub fn number_of(word: &[u8]) -> Number
     Number::Value(value)
 }
 
-fn no_numbers() -> Numbers
-    ensures { λ r. ⌜ r ≡ noNumbers ⌝ }
+// The place of a word among those of a text; behind the last one if it is none of them.
+pub fn index_of(text: &[u8], word: &[u8]) -> usize
+    ensures { λ r. ⌜ r ≡ indexOf (now (word .entry)) (words (now (text .entry))) ⌝ }
 {
-    Numbers {
-        good: false,
-        values: [0u64; 24],
-    }
-}
-
-// The words from a place to the line's end, as numbers; not good if they are more or fewer, or one is no number.
-pub fn numbers_from(line: &[u8], from: usize, count: usize) -> Numbers
-    ensures { λ r. ⌜ r ≡ numbersOf count (words (drop from (now (line .entry)))) ⌝ }
-{
-    if 24 < count {
-        return no_numbers();
-    }
-    let mut values = [0u64; 24];
-    let mut at = from;
+    let mut at = 0;
+    let mut next = next_word(text, at);
     let mut i = 0;
-    while i < count {
-        let word = next_word(line, at);
-        let start = word.start;
-        let end = word.end;
-        let Number::Value(value) = number_of(&line[start..end]) else {
-            return no_numbers();
-        };
-        values[i] = value;
+    while next.start < next.end {
+        let start = next.start;
+        let end = next.end;
+        if same(&text[start..end], word) {
+            return i;
+        }
         at = end;
+        let behind = next_word(text, at);
+        next = behind;
         i += 1;
     }
-    let rest = next_word(line, at);
-    if rest.start < rest.end {
-        return no_numbers();
+    i
+}
+
+// The word of a number, counted from 0; behind the last one an empty one.
+pub fn nth_word(text: &[u8], n: usize) -> Word
+    ensures { λ r. ⌜ IsWord (getD (words (now (text .entry))) n []) (now (text .entry)) r ⌝ }
+{
+    let mut at = 0;
+    let mut next = next_word(text, at);
+    let mut i = 0;
+    while i < n {
+        at = next.end;
+        let behind = next_word(text, at);
+        next = behind;
+        i += 1;
     }
-    Numbers { good: true, values }
+    next
 }

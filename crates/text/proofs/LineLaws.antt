@@ -8,14 +8,14 @@ use native.Mathlib.Numerals.{add-one}
 use native.Mathlib.Omega.{arith}
 use lib.Dec.{ltb}
 use lib.ListN.{length, take, drop, set, getD, length-append, length-set, drop-of-length-le}
-use lib.Seq.{take-suc, take-suc-set, drop-cons, drop-set-lt, getD-set-same}
+use lib.Seq.{take-length, paste, take-paste, take-suc, take-suc-set, drop-cons, drop-set-lt, getD-set-same}
 use borrow.Author.Tests.{le-ltb, lt-ltb, ltb-false}
 use Rattle.text.specs.declared.lines.Line.{Line}
-use Rattle.text.specs.Text.{digits}
+use Rattle.text.specs.Text.{text, digits, decimal, spaced}
 use Rattle.text.specs.Lines.{shown, Appended}
 
 -- one byte stored behind what is shown
-pub put-shown : (bytes : List ℕ) (at b : ℕ) → length bytes ≡ 128 → at < 128 → take (at + 1) (set bytes at b) ≡ take at bytes ++ (b ∷ [])
+pub put-shown : (bytes : List ℕ) (at b : ℕ) → length bytes ≡ 512 → at < 512 → take (at + 1) (set bytes at b) ≡ take at bytes ++ (b ∷ [])
 put-shown bytes at b size low = rw add-one (take-suc-set bytes at b (omega arith))
 
 -- nothing appended, and one word after another
@@ -29,9 +29,24 @@ appended-on l m r xs ys p q fits =
     let second = q (omega arith) in
     (omega arith, second .1 ∙ rw (first .1) (append-assoc (shown l) xs ys))
 
--- a word is appended byte by byte
-pub appended-more : (l m r : Line) (w : List ℕ) (i : ℕ) → i < length w → Appended l (take i w) m → Appended m (getD w i 0 ∷ []) r → Appended l (take (i + 1) w) r
-appended-more l m r w i low p q = rw (add-one, take-suc w i 0 low) (appended-on l m r (take i w) (getD w i 0 ∷ []) p q)
+-- a word copied behind what is shown
+pub pasted : (bytes : List ℕ) (at : ℕ) (word : List ℕ) → at + length word ≤ length bytes → take (at + length word) (paste bytes at word (length word)) ≡ take at bytes ++ word
+pasted bytes at word fits = take-paste bytes at word (length word) (omega arith) (omega arith) ∙ rw (take-length word)
+
+-- numbers, one after another
+spaced-last : (ns : List ℕ) (n : ℕ) → spaced (ns ++ (n ∷ [])) ≡ spaced ns ++ (text " " ++ decimal n)
+unfolding spaced
+spaced-last [] n = append-nil (text " " ++ decimal n)
+spaced-last (m ∷ ns) n = rw (spaced-last ns n) (sym (append-assoc (text " " ++ decimal m) (spaced ns) (text " " ++ decimal n)))
+
+pub spaced-none : (l : Line) → Appended l (spaced []) l
+unfolding spaced
+spaced-none l = appended-none l
+
+pub spaced-more : (l m p r : Line) (ns : List ℕ) (i : ℕ) → i < length ns → Appended l (spaced (take i ns)) m → Appended m (text " ") p → Appended p (decimal (getD ns i 0)) r → Appended l (spaced (take (i + 1) ns)) r
+spaced-more l m p r ns i low first second third =
+    rw (add-one, take-suc ns i 0 low, spaced-last (take i ns) (getD ns i 0))
+    (appended-on l m r (spaced (take i ns)) (text " " ++ decimal (getD ns i 0)) first (appended-on m p r (text " ") (decimal (getD ns i 0)) second third))
 
 -- digits stand from place at + 1 on; n is what is left of the number
 abbrev pub Digits : ℕ → List ℕ → ℕ → ℕ → Type 0

@@ -18,3 +18,8 @@ digits (suc more) n = let high = digits more (n / 10) in List._++_ (cond (ltb n 
 -- twenty digits hold every number below 2 to the 64
 abbrev pub decimal : ℕ → List.List ℕ
 decimal n = digits 20 n
+
+-- numbers, each after a space
+unfoldable pub spaced : List.List ℕ → List.List ℕ
+spaced List.[] = List.[]
+spaced (List._∷_ n ns) = List._++_ (List._++_ (text " ") (decimal n)) (spaced ns)

@@ -5,8 +5,5 @@ use mathlib.Core.Path.{sym}
 use Rattle.bench.proofs.memory.Statement.{statement}
 use Rattle.bench.proofs.memory.Tie as tie
 
-returns : tie.Need-returns
-returns c = sym (length-replicate {0} {A = ℕ} 4194304 0)
-
 pub memory-spec : {M : Type 1} → statement M
-memory-spec = tie.close (tie.spec returns)
+memory-spec = tie.close (tie.spec (λ c. sym (length-replicate {0} {A = ℕ} 4194304 0)))

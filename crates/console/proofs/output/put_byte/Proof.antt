@@ -2,7 +2,8 @@
 use mathlib.Core.Path.{refl}
 use mathlib.Core.List.{[], _∷_}
 use native.Mathlib.Omega.{arith}
-use Rattle.console.proofs.OutputLaws.{put-none, put-here, put-one}
+use Rattle.text.proofs.PutLaws.{put-none, put-here}
+use Rattle.console.proofs.OutputLaws.{put-one}
 use borrow.Author.Needs.{needs}
 use Rattle.console.proofs.output.put_byte.Statement.{statement}
 use Rattle.console.proofs.output.put_byte.Tie as tie
@@ -12,19 +13,10 @@ returns c =
     let a = c .before .args in
     put-none (a .byte ∷ []) (a .at) (a .out .now) (omega arith)
 
-slice-write-out : tie.Need-slice-write-out
-slice-write-out c = search needs
-
-add-result : tie.Need-add-result
-add-result c = search needs
-
-same-length : tie.Need-same-length
-same-length c = search needs
-
 returns-2 : tie.Need-returns-2
 returns-2 c =
     let a = c .before .args in
     put-here (a .byte ∷ []) (a .at) (a .out .now) _ _ (omega arith) (put-one (a .out .now) (a .at) (a .byte) (c .if1 .left)) refl
 
 pub put-byte-spec : {M : Type 1} → statement M
-put-byte-spec = tie.close (tie.spec returns slice-write-out add-result same-length returns-2)
+put-byte-spec = tie.close (tie.spec returns (λ c. search needs) (λ c. search needs) (λ c. search needs) returns-2)

@@ -5,7 +5,8 @@ use native.Mathlib.Omega.{arith}
 use lib.ListN.{length, length-set}
 use lib.Seq.{paste, paste-zero, take-all}
 use Rattle.console.specs.Output.{hexText}
-use Rattle.console.proofs.OutputLaws.{put-none, put-paste, hex-size, hex-next}
+use Rattle.text.proofs.PutLaws.{put-none, put-paste}
+use Rattle.console.proofs.OutputLaws.{hex-size, hex-next}
 use borrow.Author.Needs.{needs}
 use Rattle.console.proofs.output.put_hex.Statement.{statement}
 use Rattle.console.proofs.output.put_hex.Tie as tie
@@ -21,9 +22,6 @@ returns c =
     let a = c .before .before .before .args in
     put-none (hexText (a .bytes .now)) (a .at) (a .out .now) (omega arith)
 
-sub-if2 : tie.Need-sub-if2 Inv-loop μ-loop
-sub-if2 c = search needs
-
 returns-2 : tie.Need-returns-2 Inv-loop μ-loop
 returns-2 c =
     let a = c .before .before .before .before .args in
@@ -34,57 +32,12 @@ loop-holds c =
     let a = c .before .before .before .before .args in
     (omega arith, refl, paste-zero (a .out .now) (a .at) (hexText (a .bytes .now)))
 
-shared-slice-read-byte : tie.Need-shared-slice-read-byte Inv-loop μ-loop
-shared-slice-read-byte c = search needs
-
-hex-digit-requires : tie.Need-hex-digit-requires Inv-loop μ-loop
-hex-digit-requires c κs = omega (arith, c .shared-slice-known2 .given (c .before .before .loop .i))
-
-mul-out : tie.Need-mul-out Inv-loop μ-loop
-mul-out c = search needs
-
-add-out : tie.Need-add-out Inv-loop μ-loop
-add-out c = search needs
-
-slice-write-out : tie.Need-slice-write-out Inv-loop μ-loop
-slice-write-out c = search needs
-
-hex-digit-requires-2 : tie.Need-hex-digit-requires-2 Inv-loop μ-loop
-hex-digit-requires-2 c κs = search needs
-
-mul-out-2 : tie.Need-mul-out-2 Inv-loop μ-loop
-mul-out-2 c = search needs
-
-add-out-2 : tie.Need-add-out-2 Inv-loop μ-loop
-add-out-2 c = search needs
-
-add-out-3 : tie.Need-add-out-3 Inv-loop μ-loop
-add-out-3 c = search needs
-
-slice-write-out-2 : tie.Need-slice-write-out-2 Inv-loop μ-loop
-slice-write-out-2 c = simp length-set (omega arith)
-
-add-i : tie.Need-add-i Inv-loop μ-loop
-add-i c = search needs
-
-loop-less : tie.Need-loop-less Inv-loop μ-loop
-loop-less c = search needs
-
 loop-again : tie.Need-loop-again Inv-loop μ-loop
 loop-again c =
     let a = c .before .before .before .before .before .before .before .before .before .args in
     let l = c .before .before .before .before .loop in
     let step = hex-next (a .bytes .now) (a .out .now) (a .at) (l .i) (c .before .before .before .loop-test .taken) (omega arith) in
     (omega arith, simp length-set (l .inv .1), rw (l .inv .2, c .before .hex-digit .ensures, c .hex-digit2 .ensures) step)
-
-mul-result : tie.Need-mul-result Inv-loop μ-loop
-mul-result c = search needs
-
-add-result : tie.Need-add-result Inv-loop μ-loop
-add-result c = search needs
-
-same-length : tie.Need-same-length Inv-loop μ-loop
-same-length c = c .before .loop .inv .1
 
 returns-3 : tie.Need-returns-3 Inv-loop μ-loop
 returns-3 c =
@@ -98,27 +51,7 @@ returns-3 c =
 pub put-hex-spec : {M : Type 1} → statement M
 put-hex-spec =
     tie.close
-    (tie.spec
-    Inv-loop
-    μ-loop
-    returns
-    sub-if2
-    returns-2
-    loop-holds
-    shared-slice-read-byte
-    hex-digit-requires
-    mul-out
-    add-out
-    slice-write-out
-    hex-digit-requires-2
-    mul-out-2
-    add-out-2
-    add-out-3
-    slice-write-out-2
-    add-i
-    loop-less
-    loop-again
-    mul-result
-    add-result
-    same-length
-    returns-3)
+    (tie.spec Inv-loop μ-loop returns (λ c. search needs) returns-2 loop-holds (λ c. search needs)
+    (λ c κs. omega (arith, c .shared-slice-known2 .given (c .before .before .loop .i))) (λ c. search needs) (λ c. search needs) (λ c. search needs)
+    (λ c κs. search needs) (λ c. search needs) (λ c. search needs) (λ c. search needs) (λ c. simp length-set (omega arith)) (λ c. search needs)
+    (λ c. search needs) loop-again (λ c. search needs) (λ c. search needs) (λ c. c .before .loop .inv .1) returns-3)

@@ -1,26 +1,24 @@
 -- `asked` meets its contract.
-use mathlib.Core.Path.{subst}
-use Rattle.history.specs.Answers.{Reply}
-use Rattle.console.specs.Say.{IsLine, askText}
-use Rattle.console.proofs.RespondLaws.{says-is}
+use mathlib.Core.Path.{_∙_, ap, sym, refl}
+use Rattle.judging.specs.Judged.{replyIn}
+use Rattle.requests.specs.declared.forms.Request.the-variants.{Ask}
+use Rattle.console.specs.Say.{full}
+use Rattle.console.specs.Respond.{outcomeIn}
+use Rattle.console.proofs.RespondLaws.{tells-is}
 use borrow.Author.Needs.{needs}
 use Rattle.console.proofs.respond.asked.Statement.{statement}
 use Rattle.console.proofs.respond.asked.Tie as tie
 
-earliest-requires : tie.Need-earliest-requires
-earliest-requires c κs = search needs
-
-ask-line-requires : tie.Need-ask-line-requires
-ask-line-requires c κs = search needs
-
-said-requires : tie.Need-said-requires
-said-requires c κs = search needs
-
 returns : tie.Need-returns
-returns c =
-    let a = c .before .before .before .args in
-    let line = subst (λ (q : Reply). IsLine (askText q) (c .before .ask-line .result)) (c .before .before .earliest .ensures .exact) (c .before .ask-line .ensures) in
-    λ j. says-is (a .session) (a .lent) (c .before .ask-line .result) (c .said .result) (c .said .ensures) _ j line
+unfolding outcomeIn
+returns c j =
+    let e = c .before .before in
+    let n = e .before in
+    let a = n .before .before .before .args in
+    rw (← n .before .before .nth .ensures, ← n .before .nth2 .ensures, ← n .nth3 .ensures, ← e .earliest .ensures .exact)
+    (tells-is Ask _ (c .numbered .result) (a .session) (a .lent) j (rw (c .numbered .ensures) (refl, refl, refl, refl)))
 
 pub asked-spec : {M : Type 1} → statement M
-asked-spec = tie.close (tie.spec earliest-requires ask-line-requires said-requires returns)
+asked-spec =
+    tie.close
+    (tie.spec (λ c κs. search needs) (λ c κs. search needs) (λ c κs. search needs) (λ c κs. search needs) (λ c κs. search needs) returns)

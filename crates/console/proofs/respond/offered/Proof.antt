@@ -1,46 +1,34 @@
 -- `offered` meets its contract.
+use mathlib.Core.Path.{refl}
 use lib.ListN.{length, take}
 use Rattle.history.specs.Answers.{roomOf}
 use Rattle.statements.specs.Exact.{offerIn}
-use Rattle.console.specs.Say.{offerText}
+use Rattle.requests.specs.declared.forms.Request.the-variants.{Offer}
 use Rattle.requests.proofs.SliceLaws.{front-size}
+use Rattle.console.specs.Say.{full}
+use Rattle.console.specs.Respond.{outcomeIn}
 use Rattle.console.proofs.RespondLaws.{called-is}
 use borrow.Author.Needs.{needs}
 use Rattle.console.proofs.respond.offered.Statement.{statement}
 use Rattle.console.proofs.respond.offered.Tie as tie
 
-slice-relend-prefix-offer : tie.Need-slice-relend-prefix-offer
-slice-relend-prefix-offer c = search needs
-
 slice-aggregate-offer : tie.Need-slice-aggregate-offer
-slice-aggregate-offer c = front-size (c .before .before .args .lent) (c .before .before .args .journal .now) (c .before .before .pre)
-
-offer-requires : tie.Need-offer-requires
-offer-requires c κs = search needs
-
-offer-line-requires : tie.Need-offer-line-requires
-offer-line-requires c κs = search needs
-
-said-requires : tie.Need-said-requires
-said-requires c κs = search needs
-
-same-length : tie.Need-same-length
-same-length c = search needs
+slice-aggregate-offer c =
+    let s = c .before .before .before .before .before .before in
+    front-size (s .args .lent) (s .args .journal .now) (s .pre)
 
 returns : tie.Need-returns
+unfolding outcomeIn
 returns c =
-    let a = c .before .before .before .before .before .before .before .before .before .args in
+    let o = c .before .before .before .before .before .before in
+    let n = o .before .before in
+    let a = n .before .before .before .before .before .args in
     let j = a .journal .now in
-    called-is _ (a .lent) (c .before .offer-line .result) (c .said .result) (c .said .ensures) offerText (offerIn (roomOf (length (take (a .lent) j))) (a .session) (a .kind) (a .rank) (a .bank) (a .cycle)) (a .session) j _ _ (c .before .before .before .before .before .before .offer .ensures .exact) (c .before .offer-line .ensures)
+    rw (← n .before .before .before .nth .ensures, ← n .before .before .nth2 .ensures, ← n .before .nth3 .ensures, ← n .nth4 .ensures)
+    (called-is Offer 3 _ _ _ (c .numbered .result) (c .numbered .ensures) full (offerIn (roomOf (length (take (a .lent) j))) (a .session) (n .before .before .before .nth .result) (n .before .before .nth2 .result) (n .before .nth3 .result) (n .nth4 .result)) (a .session) _ (a .lent) j _ _ (o .offer .ensures .exact) refl)
 
 pub offered-spec : {M : Type 1} → statement M
 offered-spec =
     tie.close
-    (tie.spec
-    slice-relend-prefix-offer
-    slice-aggregate-offer
-    offer-requires
-    offer-line-requires
-    said-requires
-    same-length
-    returns)
+    (tie.spec (λ c κs. search needs) (λ c κs. search needs) (λ c κs. search needs) (λ c κs. search needs) (λ c. search needs) slice-aggregate-offer
+    (λ c κs. search needs) (λ c κs. search needs) (λ c. search needs) returns)

@@ -1,47 +1,35 @@
 -- `opened` meets its contract.
+use mathlib.Core.Path.{refl}
 use lib.ListN.{length, take}
 use Rattle.history.specs.Answers.{roomOf}
 use Rattle.statements.specs.Exact.{openIn}
-use Rattle.console.specs.Say.{openText}
-use Rattle.console.specs.Respond.{settingsOf}
+use Rattle.requests.specs.declared.forms.Request.the-variants.{Open}
 use Rattle.requests.proofs.SliceLaws.{front-size}
+use Rattle.console.specs.Say.{brief}
+use Rattle.console.specs.Respond.{settingsOf, outcomeIn}
 use Rattle.console.proofs.RespondLaws.{called-is}
 use borrow.Author.Needs.{needs}
 use Rattle.console.proofs.respond.opened.Statement.{statement}
 use Rattle.console.proofs.respond.opened.Tie as tie
 
-slice-relend-prefix-open-session : tie.Need-slice-relend-prefix-open-session
-slice-relend-prefix-open-session c = search needs
-
 slice-aggregate-open-session : tie.Need-slice-aggregate-open-session
-slice-aggregate-open-session c = front-size (c .before .before .args .lent) (c .before .before .args .journal .now) (c .before .before .pre)
-
-open-session-requires : tie.Need-open-session-requires
-open-session-requires c κs = search needs
-
-open-line-requires : tie.Need-open-line-requires
-open-line-requires c κs = search needs
-
-said-requires : tie.Need-said-requires
-said-requires c κs = search needs
-
-same-length : tie.Need-same-length
-same-length c = search needs
+slice-aggregate-open-session c =
+    let s = c .before .before .before .before .before .before .before in
+    front-size (s .args .lent) (s .args .journal .now) (s .pre)
 
 returns : tie.Need-returns
+unfolding outcomeIn
 returns c =
-    let a = c .before .before .before .before .before .before .before .before .args in
+    let o = c .before .before .before .before in
+    let g = o .before .before in
+    let n = g .before in
+    let a = n .before .before .before .before .before .args in
     let j = a .journal .now in
-    called-is _ (a .lent) (c .before .open-line .result) (c .said .result) (c .said .ensures) openText (openIn (roomOf (length (take (a .lent) j))) (a .session) (settingsOf (a .ratio) (a .ranks) (a .mode) (a .client) (a .gaps))) (a .session) j _ _ (c .before .before .before .before .before .open-session .ensures .exact) (c .before .open-line .ensures)
+    rw (← n .before .before .before .nth .ensures, ← n .before .before .nth2 .ensures, ← n .before .nth3 .ensures, ← n .nth4 .ensures, ← g .gaps-of .ensures)
+    (called-is Open 1 _ 0 0 (c .numbered .result) (c .numbered .ensures) brief _ (a .session) _ (a .lent) j _ _ (o .open-session .ensures .exact) refl)
 
 pub opened-spec : {M : Type 1} → statement M
 opened-spec =
     tie.close
-    (tie.spec
-    slice-relend-prefix-open-session
-    slice-aggregate-open-session
-    open-session-requires
-    open-line-requires
-    said-requires
-    same-length
-    returns)
+    (tie.spec (λ c κs. search needs) (λ c κs. search needs) (λ c κs. search needs) (λ c κs. search needs) (λ c. search needs) (λ c κs. search needs)
+    (λ c. search needs) slice-aggregate-open-session (λ c κs. search needs) (λ c κs. search needs) (λ c. search needs) returns)

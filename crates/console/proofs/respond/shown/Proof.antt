@@ -3,36 +3,38 @@ use Prim.Native.Nat.{_+_}
 use native.Mathlib.Omega.{arith}
 use borrow.Author.Tests.{lt-leb, le-leb}
 use lib.ListN.{length}
-use Rattle.console.specs.Say.{bytesText}
+use Rattle.requests.specs.declared.forms.Request.the-variants as asks
+use Rattle.console.specs.Respond.{outcomeIn}
 use Rattle.console.proofs.RespondLaws.{prints-is}
 use borrow.Author.Needs.{needs}
 use Rattle.console.proofs.respond.shown.Statement.{statement}
 use Rattle.console.proofs.respond.shown.Tie as tie
 
-refused-requires : tie.Need-refused-requires
-refused-requires c κs = search needs
-
 returns : tie.Need-returns
+unfolding outcomeIn
 returns c =
-    let a = c .before .before .before .args in
-    rw (lt-leb (a .from + a .count) (length (a .journal .now)) (omega arith)) (c .refused .ensures (a .journal .now))
-
-refused-requires-2 : tie.Need-refused-requires-2
-refused-requires-2 c κs = search needs
+    let n = c .before .before in
+    let a = n .before .before .before .args in
+    rw (← n .before .nth .ensures, ← n .nth2 .ensures, lt-leb (n .before .nth .result + n .nth2 .result) (length (a .journal .now)) (omega (arith, c .before .if1 .taken))) (c .plain .ensures (a .journal .now))
 
 returns-2 : tie.Need-returns-2
+unfolding outcomeIn
 returns-2 c =
-    let a = c .before .before .before .before .args in
-    rw (lt-leb (a .from + a .count) (length (a .journal .now)) (omega arith)) (c .refused2 .ensures (a .journal .now))
-
-bytes-line-requires : tie.Need-bytes-line-requires
-bytes-line-requires c κs = search needs
+    let n = c .before .before .before in
+    let a = n .before .before .before .args in
+    rw (← n .before .nth .ensures, ← n .nth2 .ensures, lt-leb (n .before .nth .result + n .nth2 .result) (length (a .journal .now)) (omega (arith, c .before .if2 .taken))) (c .plain2 .ensures (a .journal .now))
 
 returns-3 : tie.Need-returns-3
+unfolding outcomeIn
 returns-3 c =
-    let a = c .before .before .before .before .args in
-    rw (le-leb (a .from + a .count) (length (a .journal .now)) (omega arith))
-    (prints-is (bytesText (a .count)) (a .journal .now) (a .session) (a .lent) (a .from) (a .count) (c .bytes-line .result) (c .bytes-line .ensures) (omega arith))
+    let i = c .before .before in
+    let n = i .before .before in
+    let a = n .before .before .before .args in
+    rw (← n .before .nth .ensures, ← n .nth2 .ensures, le-leb (n .before .nth .result + n .nth2 .result) (length (a .journal .now)) (omega (arith, i .if2 .left, i .before .if1 .left)))
+    (prints-is asks.Bytes 0 0 0 0 (c .before .numbered .result) (c .before .numbered .ensures) (c .with-bytes .result) (a .session) (a .lent) _ _ (a .journal .now) (c .with-bytes .ensures) (omega (arith, i .if2 .left, i .before .if1 .left)))
 
 pub shown-spec : {M : Type 1} → statement M
-shown-spec = tie.close (tie.spec refused-requires returns refused-requires-2 returns-2 bytes-line-requires returns-3)
+shown-spec =
+    tie.close
+    (tie.spec (λ c κs. search needs) (λ c κs. search needs) (λ c κs. search needs) returns (λ c κs. search needs) returns-2 (λ c κs. search needs)
+    (λ c κs. search needs) returns-3)

@@ -1,50 +1,35 @@
 -- `stretched` meets its contract.
-use mathlib.Core.Path.{_≡_, ap, subst}
+use mathlib.Core.Path.{_≡_, ap, sym, subst}
+use mathlib.Core.List.{[], _∷_}
 use Prim.Native.Nat.{ℕ}
+use native.Mathlib.Omega.{arith}
 use lib.ListN.{length}
-use borrow.Author.Needs.{needs}
+use Rattle.requests.specs.declared.forms.Request.the-variants.{Stretch}
 use Rattle.requests.proofs.SliceLaws.{front-size}
+use Rattle.journal.specs.Restore.{Part, partOf}
 use Rattle.statements.specs.Calls.{Seen}
 use Rattle.checker.specs.Replies.{stretchTold}
-use Rattle.console.specs.Say.{IsLine, stretchText}
-use Rattle.console.proofs.RespondLaws.{stretch-is, stretch-size}
+use Rattle.console.specs.Respond.{prints, outcomeIn, Responds}
+use Rattle.console.proofs.RespondLaws.{prints-is, stretch-size, responseOf}
+use borrow.Author.Needs.{needs}
 use Rattle.console.proofs.respond.stretched.Statement.{statement}
 use Rattle.console.proofs.respond.stretched.Tie as tie
 
-stretch-place-requires : tie.Need-stretch-place-requires
-stretch-place-requires c κs = search needs
-
-slice-aggregate-stretch : tie.Need-slice-aggregate-stretch
-slice-aggregate-stretch c =
-    let s = c .before .before .before in
-    front-size (s .args .lent) (s .args .journal .now) (s .pre)
-
-stretch-requires : tie.Need-stretch-requires
-stretch-requires c κs = search needs
-
-stretch-line-requires : tie.Need-stretch-line-requires
-stretch-line-requires c κs = search needs
-
 returns : tie.Need-returns
-returns c =
-    let s = c .before .before .before .before .before in
+unfolding outcomeIn
+returns c ns =
+    let s = c .before .before .before .before .before .before in
     let a = s .args in
-    let place = c .before .before .before .stretch-place in
+    let j = a .journal .now in
+    let place = c .before .before .before .before .stretch-place in
     let p = stretchTold (place .result) in
-    let part = c .before .stretch in
-    let line = c .stretch-line .result in
-    let count : length (part .result .now) ≡ p .size =
-    stretch-size (a .session) (a .lent) (a .journal .now) p (part .result .now) (place .ensures .0 .exact) (place .ensures .1) (s .pre) (ap (λ (x : Seen). x .bytes) (part .ensures .exact)) in
-    rw count
-    (stretch-is (a .session) (a .lent) (a .journal .now) p line (place .ensures .0 .exact) (place .ensures .1) (s .pre)
-    (subst (λ (n : ℕ). IsLine (stretchText n) line) count (c .stretch-line .ensures)))
+    let part = c .before .before .stretch in
+    let size : length (part .result .now) ≡ p .size = stretch-size (a .session) (a .lent) j p (part .result .now) (place .ensures .0 .exact) (place .ensures .1) (s .pre) (ap (λ (x : Seen). x .bytes) (part .ensures .exact)) in
+    subst (λ (q : Part). Responds (prints Stretch (q .size ∷ []) (q .start) (partOf q j) (a .session) (a .lent) j) (responseOf (a .session) (a .lent) (c .with-bytes .result)) j) (place .ensures .0 .exact)
+    (prints-is Stretch 1 (p .size) 0 0 (c .before .numbered .result) (rw size at (c .before .numbered .ensures)) (c .with-bytes .result) (a .session) (a .lent) (p .start) (p .size) j (rw size at (c .with-bytes .ensures)) (omega (arith, place .ensures .1, s .pre)))
 
 pub stretched-spec : {M : Type 1} → statement M
 stretched-spec =
     tie.close
-    (tie.spec
-    stretch-place-requires
-    slice-aggregate-stretch
-    stretch-requires
-    stretch-line-requires
-    returns)
+    (tie.spec (λ c κs. search needs) (λ c. let s = c .before .before .before in front-size (s .args .lent) (s .args .journal .now) (s .pre))
+    (λ c κs. search needs) (λ c κs. search needs) (λ c κs. search needs) returns)

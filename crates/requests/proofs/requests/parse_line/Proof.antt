@@ -1,79 +1,52 @@
 -- `parse_line` meets its contract.
-use mathlib.Core.Path.{sym, _∙_, ap}
+use mathlib.Core.Path.{_≡_, subst, sym}
 use Prim.Native.Nat.{_-_}
 use native.Mathlib.Omega.{arith}
-use lib.ListN.{length}
+use lib.ListN.{length, length-take}
 use borrow.Author.Tests.{not-true, not-false}
-use borrow.Author.Needs.{needs}
-use Rattle.requests.specs.Requests.{asked}
 use Rattle.requests.proofs.SliceLaws.{front-size}
-use Rattle.requests.proofs.RequestLaws.{asked-empty, asked-cut, asked-long, asked-return, asked-ended}
+use Rattle.requests.proofs.RequestLaws.{none-asked, asked-empty, asked-cut, asked-long, asked-return, asked-ended}
+use borrow.Author.Needs.{needs}
 use Rattle.requests.proofs.requests.parse_line.Statement.{statement}
 use Rattle.requests.proofs.requests.parse_line.Tie as tie
 
-without-gaps-requires : tie.Need-without-gaps-requires
-without-gaps-requires c κs = search needs
-
 returns : tie.Need-returns
-returns c = c .without-gaps .ensures ∙ sym (asked-empty (c .before .before .before .args .line .now) (c .before .before .before .args .ended) (c .before .if1 .taken))
-
-without-gaps-requires-2 : tie.Need-without-gaps-requires-2
-without-gaps-requires-2 c κs = search needs
+returns c =
+    let a = c .before .before .before .args in
+    none-asked _ _ (c .nothing .result) _ (asked-empty (a .in-file) (a .line .now) (a .ended) (c .before .if1 .taken)) (c .nothing .ensures)
 
 returns-2 : tie.Need-returns-2
 returns-2 c =
     let a = c .before .before .before .before .args in
-    c .without-gaps2 .ensures ∙ sym (ap (asked (a .line .now)) (not-true (a .ended) (c .before .if2 .taken)) ∙ asked-cut (a .line .now) (c .before .before .if1 .left))
-
-without-gaps-requires-3 : tie.Need-without-gaps-requires-3
-without-gaps-requires-3 c κs = search needs
+    none-asked _ _ (c .malformed .result) _ (asked-cut (a .in-file) (a .line .now) (a .ended) (not-true _ (c .before .if2 .taken)) (c .before .before .if1 .left)) (c .malformed .ensures)
 
 returns-3 : tie.Need-returns-3
 returns-3 c =
     let a = c .before .before .before .before .before .args in
-    c .without-gaps3 .ensures ∙ sym (ap (asked (a .line .now)) (not-false (a .ended) (c .before .before .if2 .left)) ∙ asked-long (a .line .now) (c .before .if3 .taken))
-
-sub-last : tie.Need-sub-last
-sub-last c = search needs
-
-shared-slice-read-if4 : tie.Need-shared-slice-read-if4
-shared-slice-read-if4 c = search needs
+    none-asked _ _ (c .malformed2 .result) _ (asked-long (a .in-file) (a .line .now) (a .ended) (not-false _ (c .before .before .if2 .left)) (c .before .if3 .taken)) (c .malformed2 .ensures)
 
 slice-aggregate-parse : tie.Need-slice-aggregate-parse
 slice-aggregate-parse c =
     let l = c .before .before .before .before .before .before .before .args .line .now in
     front-size (length l - 1) l (omega arith)
 
-parse-requires : tie.Need-parse-requires
-parse-requires c κs = search needs
-
 returns-4 : tie.Need-returns-4
 returns-4 c =
-    let a = c .before .before .before .before .before .before .before .before .args in
-    c .parse .ensures ∙ sym (ap (asked (a .line .now)) (not-false (a .ended) (c .before .before .before .before .before .if2 .left)) ∙ asked-return (a .line .now) (c .before .before .before .before .if3 .left) (c .before .before .if4 .taken))
-
-parse-requires-2 : tie.Need-parse-requires-2
-parse-requires-2 c κs = search needs
+    let i = c .before .before .before in
+    let d = i .before .before in
+    let a = d .before .before .before .before .args in
+    rw (asked-return (a .in-file) (a .line .now) (a .ended) (not-false _ (d .before .if2 .left)) (d .if3 .left) (i .if4 .taken)) (c .parse .ensures)
 
 returns-5 : tie.Need-returns-5
 returns-5 c =
-    let a = c .before .before .before .before .before .before .before .args in
-    c .parse2 .ensures ∙ sym (ap (asked (a .line .now)) (not-false (a .ended) (c .before .before .before .before .if2 .left)) ∙ asked-ended (a .line .now) (c .before .before .before .if3 .left) (c .before .if4 .left))
+    let i = c .before .before in
+    let d = i .before .before in
+    let a = d .before .before .before .before .args in
+    rw (asked-ended (a .in-file) (a .line .now) (a .ended) (not-false _ (d .before .if2 .left)) (d .if3 .left) (i .if4 .left)) (c .parse2 .ensures)
 
 pub parse-line-spec : {M : Type 1} → statement M
 parse-line-spec =
     tie.close
-    (tie.spec
-    without-gaps-requires
-    returns
-    without-gaps-requires-2
-    returns-2
-    without-gaps-requires-3
-    returns-3
-    sub-last
-    shared-slice-read-if4
-    slice-aggregate-parse
-    parse-requires
-    returns-4
-    parse-requires-2
-    returns-5)
+    (tie.spec (λ c κs. search needs) returns (λ c κs. search needs) returns-2 (λ c κs. search needs) returns-3 (λ c. search needs) (λ c. search needs)
+    slice-aggregate-parse (λ c κs. (simp length-take (omega (arith, c .before .before .before .before .if3 .left)), search needs)) returns-4
+    (λ c κs. search needs) returns-5)

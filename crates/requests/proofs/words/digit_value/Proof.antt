@@ -4,17 +4,5 @@ use borrow.Author.Needs.{needs}
 use Rattle.requests.proofs.words.digit_value.Statement.{statement}
 use Rattle.requests.proofs.words.digit_value.Tie as tie
 
-returns : tie.Need-returns
-returns c = rw (lt-leb _ _ (c .if1 .taken))
-
-returns-2 : tie.Need-returns-2
-returns-2 c = rw (le-leb _ _ (c .before .if1 .left), lt-leb _ _ (c .if2 .taken))
-
-cast-result : tie.Need-cast-result
-cast-result c = search needs
-
-returns-3 : tie.Need-returns-3
-returns-3 c = rw (le-leb _ _ (c .before .if1 .left), le-leb _ _ (c .if2 .left))
-
 pub digit-value-spec : {M : Type 1} → statement M
-digit-value-spec = tie.close (tie.spec returns returns-2 cast-result returns-3)
+digit-value-spec = tie.close (tie.spec (λ c. rw (lt-leb _ _ (c .if1 .taken))) (λ c. rw (le-leb _ _ (c .before .if1 .left), lt-leb _ _ (c .if2 .taken))) (λ c. search needs) (λ c. rw (le-leb _ _ (c .before .if1 .left), le-leb _ _ (c .if2 .left))))

@@ -14,42 +14,15 @@ Inv-loop word value₀ i₀ value i = Reading word value i
 abbrev μ-loop : tie.MeasureT-loop
 μ-loop word value₀ i₀ value i = length word - i
 
-returns : tie.Need-returns Inv-loop μ-loop
-returns c = rw (eq-eqb _ _ (c .if1 .taken))
-
-loop-holds : tie.Need-loop-holds Inv-loop μ-loop
-loop-holds c = reading-start (c .before .before .args .word .now)
-
-shared-slice-read-digit-value : tie.Need-shared-slice-read-digit-value Inv-loop μ-loop
-shared-slice-read-digit-value c = search needs
-
-digit-value-requires : tie.Need-digit-value-requires Inv-loop μ-loop
-digit-value-requires c κs = search needs
-
 returns-2 : tie.Need-returns-2 Inv-loop μ-loop
 returns-2 c =
     let l = c .before .before .before .before .loop in
     sym (reading-bad (c .before .before .before .before .before .before .before .args .word .now) (l .value) (l .i) _ (l .inv) (c .before .before .before .loop-test .taken) (c .before .digit-value .ensures) (c .if2 .taken))
 
-sub-if3 : tie.Need-sub-if3 Inv-loop μ-loop
-sub-if3 c = search needs
-
 returns-3 : tie.Need-returns-3 Inv-loop μ-loop
 returns-3 c =
     let l = c .before .before .before .before .before .loop in
     sym (reading-large (c .before .before .before .before .before .before .before .before .args .word .now) (l .value) (l .i) _ (l .inv) (c .before .before .before .before .loop-test .taken) (c .before .before .digit-value .ensures) (c .before .if2 .left) (c .if3 .taken))
-
-mul-value : tie.Need-mul-value Inv-loop μ-loop
-mul-value c = search needs
-
-add-value : tie.Need-add-value Inv-loop μ-loop
-add-value c = search needs
-
-add-i : tie.Need-add-i Inv-loop μ-loop
-add-i c = search needs
-
-loop-less : tie.Need-loop-less Inv-loop μ-loop
-loop-less c = search needs
 
 loop-again : tie.Need-loop-again Inv-loop μ-loop
 loop-again c =
@@ -64,19 +37,6 @@ returns-4 c =
 pub number-of-spec : {M : Type 1} → statement M
 number-of-spec =
     tie.close
-    (tie.spec
-    Inv-loop
-    μ-loop
-    returns
-    loop-holds
-    shared-slice-read-digit-value
-    digit-value-requires
-    returns-2
-    sub-if3
-    returns-3
-    mul-value
-    add-value
-    add-i
-    loop-less
-    loop-again
-    returns-4)
+    (tie.spec Inv-loop μ-loop (λ c. rw (eq-eqb _ _ (c .if1 .taken))) (λ c. reading-start (c .before .before .args .word .now)) (λ c. search needs)
+    (λ c κs. search needs) returns-2 (λ c. search needs) returns-3 (λ c. search needs) (λ c. search needs) (λ c. search needs) (λ c. search needs)
+    loop-again returns-4)

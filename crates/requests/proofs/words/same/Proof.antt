@@ -20,27 +20,12 @@ returns c =
     let a = c .before .args in
     sym (same-size (a .word .now) (a .other .now) (c .if1 .taken))
 
-loop-holds : tie.Need-loop-holds Inv-loop μ-loop
-loop-holds c = (omega arith, refl)
-
-shared-slice-read-if2 : tie.Need-shared-slice-read-if2 Inv-loop μ-loop
-shared-slice-read-if2 c = search needs
-
-shared-slice-read-if2-2 : tie.Need-shared-slice-read-if2-2 Inv-loop μ-loop
-shared-slice-read-if2-2 c = search needs
-
 returns-2 : tie.Need-returns-2 Inv-loop μ-loop
 returns-2 c =
     let a = c .before .before .before .before .before .before .args in
     let l = c .before .before .before .before .loop in
     let more = c .before .before .before .loop-test .taken in
     sym (l .inv .1 ∙ same-differs (a .word .now) (a .other .now) (l .i) more (omega arith) (c .if2 .taken))
-
-add-i : tie.Need-add-i Inv-loop μ-loop
-add-i c = search needs
-
-loop-less : tie.Need-loop-less Inv-loop μ-loop
-loop-less c = search needs
 
 loop-again : tie.Need-loop-again Inv-loop μ-loop
 loop-again c =
@@ -58,15 +43,5 @@ returns-3 c =
 pub same-spec : {M : Type 1} → statement M
 same-spec =
     tie.close
-    (tie.spec
-    Inv-loop
-    μ-loop
-    returns
-    loop-holds
-    shared-slice-read-if2
-    shared-slice-read-if2-2
-    returns-2
-    add-i
-    loop-less
-    loop-again
-    returns-3)
+    (tie.spec Inv-loop μ-loop returns (λ c. (omega arith, refl)) (λ c. search needs) (λ c. search needs) returns-2 (λ c. search needs)
+    (λ c. search needs) loop-again returns-3)

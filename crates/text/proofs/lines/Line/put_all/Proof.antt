@@ -1,44 +1,35 @@
--- `Line::put_all` meets its contract.
+-- `put_all` meets its contract.
+use mathlib.Core.Path.{_≡_, sym, _∙_}
 use Prim.Native.Nat.{_≤_, _-_}
+use native.Mathlib.Numerals.{add-one}
 use native.Mathlib.Omega.{arith}
-use lib.ListN.{length, take}
-use lib.Seq.{take-all}
+use lib.ListN.{length, length-map}
+use lib.Seq.{paste, paste-zero, paste-suc}
+use Rattle.text.proofs.LineLaws.{pasted}
 use borrow.Author.Needs.{needs}
-use Rattle.text.specs.Lines.{Appended}
-use Rattle.text.proofs.LineLaws.{appended-none, appended-more}
 use Rattle.text.proofs.lines.Line.put_all.Statement.{statement}
 use Rattle.text.proofs.lines.Line.put_all.Tie as tie
 
 abbrev Inv-loop : tie.InvT-loop
-Inv-loop word line₀ i₀ line i = (i ≤ length word) × Appended line₀ (take i word) line
+Inv-loop word at line₀ i₀ line i = (i ≤ length word) × (line .bytes ≡ paste (line₀ .bytes) at word i)
 
 abbrev μ-loop : tie.MeasureT-loop
-μ-loop word line₀ i₀ line i = length word - i
-
-loop-holds : tie.Need-loop-holds Inv-loop μ-loop
-loop-holds c = (omega arith, appended-none _)
-
-shared-slice-read-put : tie.Need-shared-slice-read-put Inv-loop μ-loop
-shared-slice-read-put c = search needs
-
-put-requires : tie.Need-put-requires Inv-loop μ-loop
-put-requires c κs = search needs
-
-add-i : tie.Need-add-i Inv-loop μ-loop
-add-i c = search needs
-
-loop-less : tie.Need-loop-less Inv-loop μ-loop
-loop-less c = search needs
+μ-loop word at line₀ i₀ line i = length word - i
 
 loop-again : tie.Need-loop-again Inv-loop μ-loop
 loop-again c =
-    let l = c .before .before .before .loop in
-    (omega arith, appended-more _ (l .line) (c .put .result) (c .before .before .before .before .before .args .word .now) (l .i) (c .before .before .loop-test .taken) (l .inv .1) (c .put .ensures))
+    let l = c .before .before .loop in
+    let s = c .before .before .before .before .before in
+    let size : length (s .args .self .bytes) ≡ 512 = search needs in
+    (omega arith, rw (l .inv .1, add-one) (paste-suc (s .args .self .bytes) (s .args .self .len) (s .args .word .now) (l .i) 0 (omega (arith, size)) (omega arith)))
 
-returns : tie.Need-returns Inv-loop μ-loop
-returns c =
-    let w = c .before .before .before .args .word .now in
-    rw (take-all (c .before .loop .i) w (c .loop-test .left)) at (c .before .loop .inv .1)
+returns-3 : tie.Need-returns-3 Inv-loop μ-loop
+returns-3 c fits =
+    let l = c .before .loop in
+    let s = c .before .before .before .before in
+    let size : length (s .args .self .bytes) ≡ 512 = search needs in
+    let all : l .i ≡ length (s .args .word .now) = omega (arith, l .inv .0, c .loop-test .left) in
+    (omega arith, rw (l .inv .1, all) (pasted (s .args .self .bytes) (s .args .self .len) (s .args .word .now) (omega (arith, size))))
 
 pub put-all-spec : {M : Type 1} → statement M
 put-all-spec =
@@ -46,10 +37,14 @@ put-all-spec =
     (tie.spec
     Inv-loop
     μ-loop
-    loop-holds
-    shared-slice-read-put
-    put-requires
-    add-i
-    loop-less
+    (λ c fits. absurd (omega (arith, c .if1 .taken)))
+    (λ c fits. absurd (omega (arith, c .if2 .taken, c .before .if1 .left)))
+    (λ c. let a = c .before .before .args in (omega arith, paste-zero (a .self .bytes) (a .self .len) (a .word .now)))
+    (λ c. search needs)
+    (λ c. search needs)
+    (λ c. search needs)
+    (λ c. search needs)
+    (λ c. search needs)
     loop-again
-    returns)
+    (λ c. search needs)
+    returns-3)

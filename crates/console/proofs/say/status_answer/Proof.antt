@@ -1,0 +1,13 @@
+-- `status_answer` meets its contract.
+use mathlib.Core.Path.{refl}
+use Rattle.checker.specs.Replies.{statusReplied}
+use borrow.Author.Needs.{needs}
+use Rattle.console.proofs.say.status_answer.Statement.{statement}
+use Rattle.console.proofs.say.status_answer.Tie as tie
+
+pub status-answer-spec : {M : Type 1} → statement M
+status-answer-spec =
+    tie.close
+    (tie.spec (λ c. search needs) (λ c κs. search needs) (λ c. search needs) (λ c κs. search needs)
+    (λ c. rw (c .before .before .answered .given .1) (c .known .ensures))
+    (λ c. rw (c .before .enum-told .given .1, c .numbered .ensures) (refl, refl, refl, refl)))

@@ -1,0 +1,124 @@
+-- The table of forms.
+use mathlib.Core.Bool.{Bool, true, false, cond, not, _&&_}
+use mathlib.Core.List.{List, [], _∷_, _++_, map}
+use Prim.Native.Nat.{ℕ, _+_, _%_}
+use lib.Dec.{eqb}
+use lib.ListN.{length, getD, replicate}
+use Rattle.text.specs.Text.{text}
+use Rattle.requests.specs.declared.forms.Form.{Form}
+use Rattle.requests.specs.declared.forms.Place.{Place}
+use Rattle.requests.specs.declared.forms.Request.{Request}
+use Rattle.requests.specs.declared.forms.Request.the-variants.{
+  Nothing,
+  Malformed,
+  Open,
+  Offer,
+  Ask,
+  Back,
+  Status,
+  Stretch,
+  Lend,
+  Restore,
+  Poke,
+  Bytes,
+}
+
+-- a word, and what stands behind it
+pub record Row : Type 0 where
+  pub word : List ℕ
+  pub form : Form
+
+-- the places stand there once, or in any number of groups
+abbrev pub once : Bool
+once = false
+
+abbrev pub again : Bool
+again = true
+
+-- a form stands wherever the journal is, or only where it is memory alone
+abbrev pub anywhere : Bool
+anywhere = true
+
+abbrev pub inMemory : Bool
+inMemory = false
+
+abbrev pub row : List ℕ → Request → ℕ → ℕ → ℕ → ℕ → ℕ → Bool → Bool → Row
+row word request kinds longs words halves bytes times where′ =
+    record {
+      word = word;
+      form = record { 0 = request; 1 = kinds; 2 = longs; 3 = words; 4 = halves; 5 = bytes; 6 = times; 7 = where′ };
+    }
+
+-- THE TABLE: the word; how many kinds stand behind it, and how many numbers of 64, 32, 16 and 8 bits
+abbrev pub rowOf : Request → Row
+rowOf Nothing = row [] Nothing 0 0 0 0 0 once anywhere
+rowOf Malformed = row (text "?") Malformed 0 0 0 0 0 once anywhere
+rowOf Open = row (text "open") Open 0 3 1 20 0 once anywhere
+rowOf Offer = row (text "offer") Offer 1 3 0 0 0 once anywhere
+rowOf Ask = row (text "ask") Ask 1 2 0 0 0 once anywhere
+rowOf Back = row (text "back") Back 0 0 0 0 0 once anywhere
+rowOf Status = row (text "status") Status 0 0 0 0 0 once anywhere
+rowOf Stretch = row (text "stretch") Stretch 0 0 0 0 0 once anywhere
+rowOf Lend = row (text "lend") Lend 0 1 0 0 0 once anywhere
+rowOf Restore = row (text "restore") Restore 0 1 0 0 0 once inMemory
+rowOf Poke = row (text "poke") Poke 0 1 0 0 1 once inMemory
+rowOf Bytes = row (text "bytes") Bytes 0 2 0 0 0 once anywhere
+
+abbrev pub wordOf : Request → List ℕ
+wordOf r = rowOf r .word
+
+abbrev pub formOf : Request → Form
+formOf r = rowOf r .form
+
+abbrev pub requests : List Request
+requests = Malformed ∷ Open ∷ Offer ∷ Ask ∷ Back ∷ Status ∷ Stretch ∷ Lend ∷ Restore ∷ Poke ∷ Bytes ∷ []
+
+-- behind the last row all is malformed
+unfoldable pub formAt : ℕ → Form
+formAt n = getD (map formOf requests) n (formOf Malformed)
+
+abbrev pub rowNumber : Request → ℕ
+rowNumber Malformed = 0
+rowNumber Open = 1
+rowNumber Offer = 2
+rowNumber Ask = 3
+rowNumber Back = 4
+rowNumber Status = 5
+rowNumber Stretch = 6
+rowNumber Lend = 7
+rowNumber Restore = 8
+rowNumber Poke = 9
+rowNumber Bytes = 10
+rowNumber Nothing = 11
+
+-- a place: a kind's name or any number of 64 bits; or a number up to a most
+abbrev pub kind : Place
+kind = record { named = true; most = 18446744073709551615 }
+
+abbrev pub upTo : ℕ → Place
+upTo most = record { named = false; most = most }
+
+abbrev pub byte : Place
+byte = upTo 255
+
+unfoldable pub places : Form → List Place
+places f =
+    replicate (f .1) kind
+    ++ (replicate (f .2) (upTo 18446744073709551615)
+    ++ (replicate (f .3) (upTo 4294967295)
+    ++ (replicate (f .4) (upTo 65535)
+    ++ replicate (f .5) byte)))
+
+abbrev pub sizeOf : Form → ℕ
+sizeOf f = f .1 + f .2 + f .3 + f .4 + f .5
+
+-- of places that come again, the one in its group
+unfoldable pub indexIn : Form → ℕ → ℕ
+indexIn f i = cond (f .6 && not (eqb (sizeOf f) 0)) (i % sizeOf f) i
+
+unfoldable pub placeAt : Form → ℕ → Place
+placeAt f i = getD (places f) (indexIn f i) byte
+
+-- so many numbers fill the places once, or in whole groups
+unfoldable pub isWhole : Form → ℕ → Bool
+isWhole f n = eqb (indexIn f n) (cond (f .6) 0 (sizeOf f))
