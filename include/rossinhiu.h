@@ -34,7 +34,7 @@ extern "C" {
 #endif
 
 /* The number of the layout of the structs below. Each function is exported under its name and this number. */
-#define ROSSINHIU_AS(name) __asm__(name "_1")
+#define ROSSINHIU_AS(name) __asm__(name "_2")
 
 /* Bytes of a record, and the most records that a journal can have. */
 #define ROSSINHIU_RECORD_SIZE 64
@@ -84,19 +84,29 @@ struct rossinhiu_opening {
     uint32_t client;
 };
 
-struct rossinhiu_session {
-    uint64_t last[224];
+/* How far the session has come. */
+struct rossinhiu_progress {
     uint64_t activates[8];
-    struct rossinhiu_entry entries[64];
-    uint64_t position;
     uint64_t latest;
+    uint64_t position;
     uint64_t survivors;
     uint64_t depth;
     uint64_t records; /* the records in the journal: the next one goes to byte 64 * records */
+};
+
+/* What the client gave. */
+struct rossinhiu_terms {
     uint64_t rounded[20];
     struct rossinhiu_opening opening;
     uint32_t number;
     uint8_t is_open;
+};
+
+struct rossinhiu_session {
+    uint64_t last[224];
+    struct rossinhiu_entry entries[64];
+    struct rossinhiu_progress progress;
+    struct rossinhiu_terms terms;
 };
 
 /* The twenty gaps of an opening in DRAM cycles: gap[0] is gap 1, tRC; gap[19] is gap 20, tFAW. */

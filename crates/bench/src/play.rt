@@ -68,7 +68,12 @@ fn play_line(
     let response = respond(session, journal, console.lent, asking, numbers);
     let next = response.session;
     let answer = response.answer;
-    let kept = is_kept(file, journal, session.records, next.records);
+    let kept = is_kept(
+        file,
+        journal,
+        session.progress.records,
+        next.progress.records,
+    );
     console.session = next;
     console.lent = response.lent;
     if !kept {

@@ -11,24 +11,24 @@ use Rattle.statements.specs.Statements.{Restores}
 use Rattle.statements.proofs.Ties.{Ensures}
 use Rattle.checker.specs.Replies.{stretchTold}
 use Rattle.capi.specs.Crossing.{statusGiven, ListsForC}
-use Rattle.capi.proofs.calls.rossinhiu_fresh_1.Kinds as fresh
-use Rattle.capi.proofs.calls.rossinhiu_fresh_1.Reads as fresh-reads
-use Rattle.capi.proofs.calls.rossinhiu_open_1.Kinds as opens
-use Rattle.capi.proofs.calls.rossinhiu_open_1.Reads as open-reads
-use Rattle.capi.proofs.calls.rossinhiu_offer_1.Kinds as offers
-use Rattle.capi.proofs.calls.rossinhiu_offer_1.Reads as offer-reads
-use Rattle.capi.proofs.calls.rossinhiu_take_back_1.Kinds as takes-back
-use Rattle.capi.proofs.calls.rossinhiu_take_back_1.Reads as take-back-reads
-use Rattle.capi.proofs.calls.rossinhiu_earliest_1.Kinds as earliest
-use Rattle.capi.proofs.calls.rossinhiu_earliest_1.Reads as earliest-reads
-use Rattle.capi.proofs.calls.rossinhiu_status_1.Kinds as status
-use Rattle.capi.proofs.calls.rossinhiu_status_1.Reads as status-reads
-use Rattle.capi.proofs.calls.rossinhiu_stretch_1.Kinds as places
-use Rattle.capi.proofs.calls.rossinhiu_stretch_1.Reads as place-reads
-use Rattle.capi.proofs.calls.rossinhiu_restore_1.Kinds as restores
-use Rattle.capi.proofs.calls.rossinhiu_restore_1.Reads as restore-reads
-use Rattle.capi.proofs.calls.rossinhiu_list_part_1.Kinds as lists
-use Rattle.capi.proofs.calls.rossinhiu_list_part_1.Reads as list-reads
+use Rattle.capi.proofs.calls.rossinhiu_fresh_2.Kinds as fresh
+use Rattle.capi.proofs.calls.rossinhiu_fresh_2.Reads as fresh-reads
+use Rattle.capi.proofs.calls.rossinhiu_open_2.Kinds as opens
+use Rattle.capi.proofs.calls.rossinhiu_open_2.Reads as open-reads
+use Rattle.capi.proofs.calls.rossinhiu_offer_2.Kinds as offers
+use Rattle.capi.proofs.calls.rossinhiu_offer_2.Reads as offer-reads
+use Rattle.capi.proofs.calls.rossinhiu_take_back_2.Kinds as takes-back
+use Rattle.capi.proofs.calls.rossinhiu_take_back_2.Reads as take-back-reads
+use Rattle.capi.proofs.calls.rossinhiu_earliest_2.Kinds as earliest
+use Rattle.capi.proofs.calls.rossinhiu_earliest_2.Reads as earliest-reads
+use Rattle.capi.proofs.calls.rossinhiu_status_2.Kinds as status
+use Rattle.capi.proofs.calls.rossinhiu_status_2.Reads as status-reads
+use Rattle.capi.proofs.calls.rossinhiu_stretch_2.Kinds as places
+use Rattle.capi.proofs.calls.rossinhiu_stretch_2.Reads as place-reads
+use Rattle.capi.proofs.calls.rossinhiu_restore_2.Kinds as restores
+use Rattle.capi.proofs.calls.rossinhiu_restore_2.Reads as restore-reads
+use Rattle.capi.proofs.calls.rossinhiu_list_part_2.Kinds as lists
+use Rattle.capi.proofs.calls.rossinhiu_list_part_2.Reads as list-reads
 
 fresh-ensures : Ensures 0 fresh.ps fresh.r fresh-reads.Post (λ κs a r s. r ≡ freshState)
 fresh-ensures κs a r s p = p .0

@@ -37,14 +37,14 @@ use session::state::Session;
 use timing::clocks::ControllerCycles;
 
 #[no_mangle]
-pub extern "C" fn rossinhiu_fresh_1() -> Session
+pub extern "C" fn rossinhiu_fresh_2() -> Session
     ensures { λ r. ⌜ (r ≡ freshState) × Rep r [] ⌝ }
 {
     Session::fresh()
 }
 
 #[no_mangle]
-pub extern "C" fn rossinhiu_open_1(
+pub extern "C" fn rossinhiu_open_2(
     session: Session,
     journal: &mut [u8],
     ratio: u64,
@@ -60,7 +60,7 @@ pub extern "C" fn rossinhiu_open_1(
 }
 
 #[no_mangle]
-pub extern "C" fn rossinhiu_offer_1(
+pub extern "C" fn rossinhiu_offer_2(
     session: Session,
     journal: &mut [u8],
     kind: u64,
@@ -74,28 +74,28 @@ pub extern "C" fn rossinhiu_offer_1(
 }
 
 #[no_mangle]
-pub extern "C" fn rossinhiu_earliest_1(session: Session, kind: u64, rank: u64, bank: u64) -> Answer
+pub extern "C" fn rossinhiu_earliest_2(session: Session, kind: u64, rank: u64, bank: u64) -> Answer
     ensures { λ r. ⌜ TellsEarliest session kind rank bank (replyIn r) ⌝ }
 {
     earliest(session, kind, rank, bank)
 }
 
 #[no_mangle]
-pub extern "C" fn rossinhiu_take_back_1(session: Session, journal: &mut [u8]) -> TakenBack
+pub extern "C" fn rossinhiu_take_back_2(session: Session, journal: &mut [u8]) -> TakenBack
     ensures { λ r. ⌜ TakesBack session (now (journal .entry)) (plain (r .number)) (r .session) (now (journal .exit)) ⌝ }
 {
     take_back(session, journal)
 }
 
 #[no_mangle]
-pub extern "C" fn rossinhiu_status_1(session: Session) -> StatusNumbers
+pub extern "C" fn rossinhiu_status_2(session: Session) -> StatusNumbers
     ensures { λ r. ⌜ TellsStatus session (statusGiven r) ⌝ }
 {
     status_numbers(status(session))
 }
 
 #[no_mangle]
-pub extern "C" fn rossinhiu_restore_1(journal: &[u8]) -> Restored
+pub extern "C" fn rossinhiu_restore_2(journal: &[u8]) -> Restored
     ensures { λ r. ⌜ Restores (now (journal .entry)) (r .number) (r .«record») (r .session) ⌝ }
 {
     restore(journal)
@@ -103,7 +103,7 @@ pub extern "C" fn rossinhiu_restore_1(journal: &[u8]) -> Restored
 
 // Where the current client's stretch stands in a journal of so many bytes.
 #[no_mangle]
-pub extern "C" fn rossinhiu_stretch_1(session: Session, lent: usize) -> Stretch
+pub extern "C" fn rossinhiu_stretch_2(session: Session, lent: usize) -> Stretch
     ensures { λ r. ⌜ PlacesStretch session lent (stretchTold r) × (r .start + r .size ≤ lent) ⌝ }
 {
     stretch_place(session, lent)
@@ -111,7 +111,7 @@ pub extern "C" fn rossinhiu_stretch_1(session: Session, lent: usize) -> Stretch
 
 // A part of a journal whose earlier parts gave the session, one record or many; `last` is 0 if another part follows.
 #[no_mangle]
-pub extern "C" fn rossinhiu_list_part_1(
+pub extern "C" fn rossinhiu_list_part_2(
     session: Session,
     part: &[u8],
     last: u64,

@@ -63,7 +63,7 @@ says q ns s lent j = prints q ns 0 [] s lent j
 
 -- a call sees the first bytes of the journal, as many as are lent; those behind them stay
 abbrev pub called : Request → (Reply → List ℕ) → Verdict → Session → ℕ → List ℕ → Outcome
-called q numbers v s lent j = says q (numbers (replyOf v)) (stateAfter s v) lent (bytesAfter (take lent j) (s .records) v ++ drop lent j)
+called q numbers v s lent j = says q (numbers (replyOf v)) (stateAfter s v) lent (bytesAfter (take lent j) (s .progress .records) v ++ drop lent j)
 
 -- a request's numbers; 0 where it has none
 abbrev pub at : List ℕ → ℕ → ℕ

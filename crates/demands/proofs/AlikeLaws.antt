@@ -12,7 +12,7 @@ use Rattle.journal.specs.Restore.{Part}
 use Rattle.statements.specs.Exact.{Left}
 use Rattle.statements.specs.Rep.{Rep}
 use Rattle.statements.specs.Statements.{Restores}
-use Rattle.statements.specs.Calls.{Outcome, Move, Answer, replied, stated, handed, Does, by-call, by-earliest, by-status, by-stretch, Seen, HandsStretch}
+use Rattle.statements.specs.Calls.{Outcome, Move, Heard, replied, stated, handed, Does, by-call, by-earliest, by-status, by-stretch, Seen, HandsStretch}
 use Rattle.listing.specs.declared.records.Listed.{Listed}
 use Rattle.listing.specs.Run.{ListsPart}
 use Rattle.demands.specs.Reached.{Reached}
@@ -31,7 +31,7 @@ call-same (offer kind rank bank t) s lent p q = left-same (p .exact) (q .exact)
 call-same take-back s lent p q = left-same (p .exact) (q .exact)
 
 -- DETERMINED, for every state value and any lent bytes
-pub determined : {m : Move} {s next next′ : Session} {lent bytes bytes′ : List ℕ} {a a′ : Answer} → Does m s lent a next bytes → Does m s lent a′ next′ bytes′ → Same a a′ next next′ bytes bytes′
+pub determined : {m : Move} {s next next′ : Session} {lent bytes bytes′ : List ℕ} {a a′ : Heard} → Does m s lent a next bytes → Does m s lent a′ next′ bytes′ → Same a a′ next next′ bytes bytes′
 determined (by-call {c = c} {s = s} {lent = lent} p) (by-call q) = call-same c s lent p q
 determined (by-earliest p) (by-earliest q) = record { answer = ap replied (p .exact ∙ sym (q .exact)); state = refl; bytes = refl }
 determined (by-status p) (by-status q) = record { answer = ap stated (p .exact ∙ sym (q .exact)); state = refl; bytes = refl }
@@ -63,12 +63,12 @@ alike h s t p q ls hs gs (goes {next = next} {m = m} {a = a} {lent = lent} {byte
     let answer : a ≡ a′ = one .answer ∙ sym (other .answer) in
     let after : bytes ≡ bytes′ = one .bytes ∙ sym (other .bytes) in
     let rest = alike (nextOf h (verdictOn (roomOf (length lent)) h m)) next next′ (one .stands) (other .stands) more as₁ as₂ on on′ in
-    ap (λ (x : Answer). record { answer = x; bytes = bytes } ∷ as₁) answer
+    ap (λ (x : Heard). record { answer = x; bytes = bytes } ∷ as₁) answer
     ∙ ap (λ (b : List ℕ). record { answer = a′; bytes = b } ∷ as₁) after
     ∙ ap (λ (xs : List Had). record { answer = a′; bytes = bytes′ } ∷ xs) rest
 
 -- from a reached state, the states that two outcomes hand back are alike
-pub alike-after : {s : Session} → Reached s → {m : Move} {next next′ : Session} {lent bytes bytes′ : List ℕ} {a a′ : Answer}
+pub alike-after : {s : Session} → Reached s → {m : Move} {next next′ : Session} {lent bytes bytes′ : List ℕ} {a a′ : Heard}
     → Does m s lent a next bytes → Does m s lent a′ next′ bytes′ → Alike next next′
 alike-after reached {m} {next} {next′} {lent} d d′ =
     let w = reached-stands reached in

@@ -9,7 +9,7 @@ use lib.ListN.{length, take}
 use lib.Seq.{take-all}
 use borrow.Author.Tests.{eq-eqb, ne-eqb, ltb-true, ltb-false}
 use Rattle.history.specs.Records.{Record, History}
-use Rattle.history.specs.Answers.{maxRecords}
+use Rattle.history.specs.Answers.{maxRecords, recordSize}
 use Rattle.journal.specs.Bytes.{Held, holding, nothing}
 use Rattle.journal.specs.Restore.{wholeRecords, taken, badAt, restored, replay, restoreOf}
 use Rattle.journal.specs.Listing.{recordLine, badLine, endLine, listed, lines, listing}
@@ -55,19 +55,19 @@ from (b ∷ bs) h (suc m) loose e = step b bs h m loose (taken h b) refl e (λ r
 -- THE LISTING'S END, for any bytes
 pub listing-ends : (bytes : List ℕ) → Ending bytes
 unfolding listing restoreOf recordLines
-listing-ends bytes = go (ltb maxRecords (length bytes / 64)) refl (from (wholeRecords bytes) [] maxRecords (length bytes % 64) refl)
+listing-ends bytes = go (ltb maxRecords (length bytes / recordSize)) refl (from (wholeRecords bytes) [] maxRecords (length bytes % recordSize) refl)
   where
-    count : length (wholeRecords bytes) ≡ length bytes / 64
-    count = length-pieces (length bytes / 64) bytes
+    count : length (wholeRecords bytes) ≡ length bytes / recordSize
+    count = length-pieces (length bytes / recordSize) bytes
 
-    go : (t : Bool) → ltb maxRecords (length bytes / 64) ≡ t → From (wholeRecords bytes) [] maxRecords (length bytes % 64) (lines (wholeRecords bytes) [] (length bytes % 64)) → Ending bytes
+    go : (t : Bool) → ltb maxRecords (length bytes / recordSize) ≡ t → From (wholeRecords bytes) [] maxRecords (length bytes % recordSize) (lines (wholeRecords bytes) [] (length bytes % recordSize)) → Ending bytes
     go true e (bad n g q l t) = long-at-bad n g (rw e) q l (record { text = t })
     go true e (many g l q t) = one-too-many g (rw e) q (record { text = t })
-    go true e (all g l q c t) = absurd (omega (arith, ltb-true maxRecords (length bytes / 64) e, count, l))
+    go true e (all g l q c t) = absurd (omega (arith, ltb-true maxRecords (length bytes / recordSize) e, count, l))
     go false e (bad n g q l t) =
-        let low : length (wholeRecords bytes) ≤ maxRecords = omega (arith, ltb-false maxRecords (length bytes / 64) e, count) in
+        let low : length (wholeRecords bytes) ≤ maxRecords = omega (arith, ltb-false maxRecords (length bytes / recordSize) e, count) in
         at-bad n g (rw e (ap (λ (ps : List (List ℕ)). replay ps []) (sym (take-all maxRecords (wholeRecords bytes) low)) ∙ q)) l (record { text = t })
-    go false e (many g l q t) = absurd (omega (arith, ltb-false maxRecords (length bytes / 64) e, count, l))
+    go false e (many g l q t) = absurd (omega (arith, ltb-false maxRecords (length bytes / recordSize) e, count, l))
     go false e (all g l q c t) =
-        let whole : length g ≡ length bytes / 64 = c ∙ omega (arith, count) in
-        at-end g (rw e (ap (λ (ps : List (List ℕ)). replay ps []) (sym (take-all maxRecords (wholeRecords bytes) l)) ∙ q)) (record { text = t ∙ ap (λ (n : ℕ). recordLines g ++ endLine n (length bytes % 64)) whole })
+        let whole : length g ≡ length bytes / recordSize = c ∙ omega (arith, count) in
+        at-end g (rw e (ap (λ (ps : List (List ℕ)). replay ps []) (sym (take-all maxRecords (wholeRecords bytes) l)) ∙ q)) (record { text = t ∙ ap (λ (n : ℕ). recordLines g ++ endLine n (length bytes % recordSize)) whole })

@@ -17,18 +17,18 @@ use Rattle.journal.specs.Restore.{written, pieces, bytesAfter, Restored, restor
 use Rattle.statements.specs.Rep.{Rep}
 use Rattle.statements.specs.Statements.{Restores}
 use Rattle.statements.proofs.KeepsLaws.{fresh-rep}
-use Rattle.statements.specs.Calls.{Outcome, Move, asks-status, Answer, replied, stated, handed, Does}
+use Rattle.statements.specs.Calls.{Outcome, Move, asks-status, Heard, replied, stated, handed, Does}
 use Rattle.demands.specs.Runs.{Plays, ends, plays}
 use Rattle.demands.specs.Named.{blank, client7, client9, shortMoves, shortAnswers, windowMoves, windowAnswers, twoOpenings}
 use Rattle.demands.proofs.MoveLaws.{answerOn, verdictOn, does-on}
 use Rattle.demands.proofs.RanLaws.{Holding, does-holds}
 
 -- the answers of moves on a history
-unfoldable answersOn : ℕ → History → List ℕ → List Move → List Answer
+unfoldable answersOn : ℕ → History → List ℕ → List Move → List Heard
 answersOn room h j [] = []
 answersOn room h j (m ∷ ms) = answerOn room h m j ∷ answersOn room (nextOf h (verdictOn room h m)) (bytesAfter j (length h) (verdictOn room h m)) ms
 
-played : (room : ℕ) (h : History) {s last : Session} {first j after : List ℕ} {ms : List Move} {xs : List Answer} → Holding room h s first j → Plays s j ms xs last after → xs ≡ answersOn room h j ms
+played : (room : ℕ) (h : History) {s last : Session} {first j after : List ℕ} {ms : List Move} {xs : List Heard} → Holding room h s first j → Plays s j ms xs last after → xs ≡ answersOn room h j ms
 unfolding answersOn
 played room h k ends = refl
 played room h {j = j} {ms = ms} k (plays {after = after} {m = m} {ms = more} {xs = xs} d p) =
@@ -37,16 +37,16 @@ played room h {j = j} {ms = ms} k (plays {after = after} {m = m} {ms = more} {xs
     let answer = w .answer ∙ ap (λ (n : ℕ). answerOn n h m j) (k .room-is) in
     let bytes : after ≡ bytesAfter j (length h) v = subst (λ (n : ℕ). after ≡ bytesAfter j (length h) (verdictOn n h m)) (k .room-is) (w .bytes) in
     let rest = played room (nextOf h v) (does-holds room h k d) p in
-    ap (λ (x : Answer). x ∷ xs) answer
-    ∙ ap (λ (ys : List Answer). answerOn room h m j ∷ ys) (rest ∙ ap (λ (b : List ℕ). answersOn room (nextOf h v) b more) bytes)
+    ap (λ (x : Heard). x ∷ xs) answer
+    ∙ ap (λ (ys : List Heard). answerOn room h m j ∷ ys) (rest ∙ ap (λ (b : List ℕ). answersOn room (nextOf h v) b more) bytes)
 
-from-blank : {last : Session} {after : List ℕ} {ms : List Move} {xs : List Answer} → Plays freshState blank ms xs last after → xs ≡ answersOn 10 [] blank ms
+from-blank : {last : Session} {after : List ℕ} {ms : List Move} {xs : List Heard} → Plays freshState blank ms xs last after → xs ≡ answersOn 10 [] blank ms
 unfolding written
 from-blank p = played 10 [] (record { rep = fresh-rep; room-is = refl; begins = refl }) p
 
 -- A checker that refuses everything, gives one earliest cycle always, is right for the first command only, or makes up a survivor count or a
 -- depth gives other answers than these
-pub short-run : {last : Session} {after : List ℕ} {xs : List Answer} → Plays freshState blank shortMoves xs last after → xs ≡ shortAnswers
+pub short-run : {last : Session} {after : List ℕ} {xs : List Heard} → Plays freshState blank shortMoves xs last after → xs ≡ shortAnswers
 unfolding rules covers matching reach floor pairAsks acts fourAsks asks latest earliest standing firstOf openOn offerOn earliestOn takeBackOn statusOn answersOn shortMoves shortAnswers le gapBytes bytesOf
 short-run p = from-blank p ∙ computed
   where
@@ -54,7 +54,7 @@ short-run p = from-blank p ∙ computed
     computed = refl
 
 -- one that doesn't bring back the fourth activate, too
-pub window-run : {last : Session} {after : List ℕ} {xs : List Answer} → Plays freshState blank windowMoves xs last after → xs ≡ windowAnswers
+pub window-run : {last : Session} {after : List ℕ} {xs : List Heard} → Plays freshState blank windowMoves xs last after → xs ≡ windowAnswers
 unfolding rules covers matching reach floor pairAsks acts fourAsks asks latest earliest standing firstOf openOn offerOn earliestOn takeBackOn statusOn answersOn windowMoves windowAnswers le gapBytes bytesOf
 window-run p = from-blank p ∙ computed
   where
@@ -76,7 +76,7 @@ restored-both : restoreOf twoOpenings ≡ restored (opening client9 ∷ opening 
 unfolding firstOf fits follows standing le gapBytes bytesOf value gapsFrom sameBytes recordIn written pieces replay restoreOf twoOpenings
 restored-both = refl
 
-abbrev client-of : Answer → ℕ
+abbrev client-of : Heard → ℕ
 client-of (stated s) = s .client
 client-of (replied r) = 0
 client-of (handed place part) = 0
@@ -87,6 +87,6 @@ unfolding statusOn standing freshState
 last-opening {next = next} told =
     let rep : Rep next (opening client9 ∷ opening client7 ∷ []) = subst (λ (r : Restored). Rep next (historyOf r)) restored-both (told .state) in (
       told .answer ∙ ap restoreNumber restored-both,
-      (λ fresh. absurd (omega (arith, rep .records, ap (λ (s : Session). s .records) fresh))),
+      (λ fresh. absurd (omega (arith, rep .records, ap (λ (s : Session). s .progress .records) fresh))),
       λ lent after status last d. ap client-of (does-on d (opening client9 ∷ opening client7 ∷ []) rep .answer),
     )

@@ -15,12 +15,12 @@ use Rattle.timing.specs.Kinds.{kindOf}
 use Rattle.timing.specs.Earliest.{Stamped, Standing, Ask, LaterThanLast, Legal, cycleAfter, floor, earliest}
 use Rattle.timing.proofs.Legal.{legal-from, named-gap}
 use Rattle.history.specs.Records.{Record, opening, command, takeBack, History, Current, closed, session, standing}
-use Rattle.history.specs.Answers.{Line, _gives_, firstOf, roomOf, openLines, placeLines, stampLines, afterLines, depthLines, roomLines, offerLines, offerReply, earliestReply, Reply, plain, named, refused, accepted, replyOf, offerCase, earliestCase, offerOn, earliestOn}
+use Rattle.history.specs.Answers.{Refusal, _gives_, firstOf, roomOf, openLines, placeLines, stampLines, afterLines, depthLines, roomLines, offerLines, offerReply, earliestReply, Reply, plain, named, refused, accepted, replyOf, offerCase, earliestCase, offerOn, earliestOn}
 use Rattle.history.specs.Struck.{open-session, offer, take-back, current, recordsIn}
 use Rattle.history.proofs.AnswerLaws.{first-on}
 use Rattle.session.specs.declared.state.Session.{Session}
 use Rattle.statements.specs.Rep.{Rep}
-use Rattle.statements.specs.Calls.{TellsEarliest, Outcome, Move, calls, asks-earliest, asks-status, asks-stretch, Answer, replied, stated, handed, Does}
+use Rattle.statements.specs.Calls.{TellsEarliest, Outcome, Move, calls, asks-earliest, asks-status, asks-stretch, Heard, replied, stated, handed, Does}
 use Rattle.demands.specs.Runs.{Event, numberIn, lasting, Run, answerAt}
 use Rattle.demands.specs.Reached.{Reached}
 use Rattle.demands.specs.Offers.{Given, none, this, a-later, kindLines, linesOf, Ready, AsksMore, OfferMeans, Askable, EarliestMeans}
@@ -28,24 +28,24 @@ use Rattle.demands.proofs.ReachedLaws.{reached-stands}
 use Rattle.demands.proofs.RanLaws.{demand-three}
 
 -- every refusal number is given exactly if its line holds and none before it does
-pub given : (ls : List Line) (n : ℕ) → (firstOf ls ≡ n) ↔ Given ls n
+pub given : (ls : List Refusal) (n : ℕ) → (firstOf ls ≡ n) ↔ Given ls n
 unfolding firstOf
 given ls n = ((λ e. subst (Given ls) e (there ls)), back ls n)
   where
-    there : (ls : List Line) → Given ls (firstOf ls)
+    there : (ls : List Refusal) → Given ls (firstOf ls)
     there [] = none
     there ((true gives m) ∷ ls) = this refl
     there ((false gives m) ∷ ls) = a-later refl (there ls)
 
-    back : (ls : List Line) (n : ℕ) → Given ls n → firstOf ls ≡ n
+    back : (ls : List Refusal) (n : ℕ) → Given ls n → firstOf ls ≡ n
     back ls n none = refl
     back ls n (this {n = m} {ls = ms} e) = ap (λ (z : Bool). cond z m (firstOf ms)) e
     back ls n (a-later {m = m} {ls = ms} e g) = ap (λ (z : Bool). cond z m (firstOf ms)) e ∙ back ms n g
 
-abbrev replyIn : Reply → Answer → Reply
-replyIn d (replied r) = r
-replyIn d (stated s) = d
-replyIn d (handed place part) = d
+abbrev replyOr : Reply → Heard → Reply
+replyOr d (replied r) = r
+replyOr d (stated s) = d
+replyOr d (handed place part) = d
 
 -- the cycle is before the earliest exactly if a gap asks for more
 module _ (st : Standing) (c : Command) (t : ℕ) (after : floor st ≤ t) where
@@ -145,7 +145,7 @@ pub demand-two-run : {room : ℕ} {es : List Event} {s next : Session} {first j 
     → Run room es s first j → Does (calls (offer kind rank bank t)) s j (replied reply) next after
     → (c : Command) (st : Standing) → c .rank ≡ rank → c .bank ≡ bank → Ready (current (lasting es)) kind c t st → OfferMeans room (recordsIn (lasting es)) st c t reply
 demand-two-run {room} {es} kind rank bank t reply run d c st r b ready =
-    offer-rightly room (recordsIn (lasting es)) (current (lasting es)) kind c t st ready rank bank reply r b (ap (replyIn reply) (demand-three run d))
+    offer-rightly room (recordsIn (lasting es)) (current (lasting es)) kind c t st ready rank bank reply r b (ap (replyOr reply) (demand-three run d))
 
 -- The earliest question means what an offer's 7 means
 module _ (now : Current) (kind : ℕ) (c : Command) (st : Standing) (able : Askable now kind c st) where
@@ -173,7 +173,7 @@ pub earliest-question-run : {room : ℕ} {es : List Event} {s next : Session} {f
     → Run room es s first j → Does (asks-earliest kind rank bank) s j (replied reply) next after
     → (c : Command) (st : Standing) → c .rank ≡ rank → c .bank ≡ bank → Askable (current (lasting es)) kind c st → EarliestMeans st c reply
 earliest-question-run {es = es} kind rank bank reply run d c st r b able =
-    earliest-rightly (current (lasting es)) kind c st able rank bank reply r b (ap (replyIn reply) (demand-three run d))
+    earliest-rightly (current (lasting es)) kind c st able rank bank reply r b (ap (replyOr reply) (demand-three run d))
 
 -- the number of every answer is that of its first line
 abbrev Numbers : ℕ → ℕ → Current → Move → List ℕ → Type 0
@@ -229,7 +229,7 @@ numbered room count (session st) asks-status j = refl
 numbered room count now asks-stretch j = refl
 
 -- after any run a move's number is given exactly if its line holds and none before it does
-pub number-given : {room : ℕ} {es : List Event} {s next : Session} {first j after : List ℕ} {m : Move} {a : Answer}
+pub number-given : {room : ℕ} {es : List Event} {s next : Session} {first j after : List ℕ} {m : Move} {a : Heard}
     → Run room es s first j → Does m s j a next after → (n : ℕ) → (numberIn a ≡ n) ↔ Given (linesOf room (recordsIn (lasting es)) (current (lasting es)) m) n
 number-given {room} {es} {j = j} {m = m} {a = a} run d n =
     let is : numberIn a ≡ firstOf (linesOf room (recordsIn (lasting es)) (current (lasting es)) m) = ap numberIn (demand-three run d) ∙ numbered room (recordsIn (lasting es)) (current (lasting es)) m j in

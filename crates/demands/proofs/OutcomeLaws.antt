@@ -10,29 +10,29 @@ use Rattle.journal.specs.Restore.{bytesAfter, Part, partOf}
 use Rattle.statements.specs.Exact.{stateAfter, openIn, offerIn, earliestIn, takeBackIn, statusIn, stretchIn}
 use Rattle.statements.proofs.CalledLaws.{TypedCall, called-left, told}
 use Rattle.statements.proofs.MeansLaws.{open-means, offer-means, earliest-means, take-back-means, status-means, stretch-means}
-use Rattle.statements.specs.Calls.{Outcome, Move, calls, asks-earliest, asks-status, asks-stretch, Answer, replied, stated, handed, Does, by-call, by-earliest, by-status, by-stretch, partIn}
+use Rattle.statements.specs.Calls.{Outcome, Move, calls, asks-earliest, asks-status, asks-stretch, Heard, replied, stated, handed, Does, by-call, by-earliest, by-status, by-stretch, partIn}
 
 pub record Some (m : Move) (s : Session) (lent : List ℕ) : Type 0 where
-  pub answer : Answer
+  pub answer : Heard
   pub next : Session
   pub bytes : List ℕ
   pub outcome : Does m s lent answer next bytes
 
 -- the settings of an opening have the sizes of the program's types
-abbrev pub Typed : Move → Type 0
-Typed (calls c) = TypedCall c
-Typed (asks-earliest kind rank bank) = Unit {0}
-Typed asks-status = Unit {0}
-Typed asks-stretch = Unit {0}
+abbrev pub TypedMove : Move → Type 0
+TypedMove (calls c) = TypedCall c
+TypedMove (asks-earliest kind rank bank) = Unit {0}
+TypedMove asks-status = Unit {0}
+TypedMove asks-stretch = Unit {0}
 
 module _ (s : Session) (lent : List ℕ) where
   abbrev room : ℕ
   room = roomOf (length lent)
 
-  some-call : (c : Call) (v : Verdict) → Outcome c s lent (replyOf v) (stateAfter s v) (bytesAfter lent (s .records) v) → Some (calls c) s lent
-  some-call c v out = record { answer = replied (replyOf v); next = stateAfter s v; bytes = bytesAfter lent (s .records) v; outcome = by-call out }
+  some-call : (c : Call) (v : Verdict) → Outcome c s lent (replyOf v) (stateAfter s v) (bytesAfter lent (s .progress .records) v) → Some (calls c) s lent
+  some-call c v out = record { answer = replied (replyOf v); next = stateAfter s v; bytes = bytesAfter lent (s .progress .records) v; outcome = by-call out }
 
-  pub some-outcome : (m : Move) → Typed m → Some m s lent
+  pub some-outcome : (m : Move) → TypedMove m → Some m s lent
   some-outcome (calls (open-session o)) typed =
       some-call (open-session o) (openIn room s o)
       (called-left (open-session o) typed s lent (openIn room s o) (λ h rep. open-means s h rep room o) _ _ _ (record { answer = refl; state = refl; written = refl }))

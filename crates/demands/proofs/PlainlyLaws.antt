@@ -15,15 +15,13 @@ use Rattle.timing.specs.declared.rules.Command.{Command}
 use Rattle.timing.specs.Kinds.{kindOf}
 use Rattle.timing.specs.Earliest.{Settings, Ask}
 use Rattle.history.specs.Records.{Record, opening, command, takeBack}
-use Rattle.history.specs.Answers.{Line, _gives_, firstOf, roomOf, placeLines, openLines, depthLines, roomLines, offerLines, Reply, plain, named, Status, earliestOn, earliestReply, statusOn, Verdict, refused, accepted, replyOf, offerReply}
+use Rattle.history.specs.Answers.{Refusal, _gives_, firstOf, roomOf, placeLines, openLines, depthLines, roomLines, offerLines, Reply, plain, named, Status, earliestOn, earliestReply, statusOn, Verdict, refused, accepted, replyOf, offerReply, recordSize}
 use Rattle.history.specs.Struck.{Call, open-session, offer, take-back}
 use Rattle.session.specs.declared.state.Session.{Session}
-use Rattle.journal.specs.Bytes.{recordSize}
 use Rattle.session.specs.State.{freshState}
-use Rattle.journal.specs.Bytes.{recordSize}
-use Rattle.journal.specs.Restore.{Part, noPart, partOf, stretchOf}
+use Rattle.journal.specs.Restore.{Part, noPart}
 use Rattle.statements.specs.Statements.{Told, Restores}
-use Rattle.judging.specs.Judged.{isClosed, afterIn, earlyIn}
+use Rattle.judging.specs.Judged.{isClosed, afterOf, earlyIn}
 use Rattle.statements.specs.Exact.{earliestIn, earliestInCase, statusIn, statusInCase, stretchIn, stretchInCase, RestoredIn, tooLong, badAt, restored, restoredNumber, restoredAt, restoredState, restoreIn, openIn, offerIn, offerInCase, takeBackIn, takeBackInCase, Left}
 use Rattle.statements.specs.Calls.{Seen, partIn, PlacesStretch, HandsStretch, Outcome}
 use Rattle.demands.specs.Plainly.{ownNumbers, ownCycle, Plainly, EarliestPlainly, StatusPlainly, StretchPlainly, RestorePlainly}
@@ -43,11 +41,11 @@ abbrev pub Fair : List ℕ → ℕ → Verdict → Type 0
 Fair own cycle v = Shows own cycle (replyOf v) (takes v)
 
 -- the first number is that of a line, or 0
-abbrev numbers : List Line → List ℕ
+abbrev numbers : List Refusal → List ℕ
 numbers [] = 0 ∷ []
 numbers ((test gives n) ∷ ls) = n ∷ numbers ls
 
-first-among : (ls : List Line) → List·Memᴰ (firstOf ls) (numbers ls)
+first-among : (ls : List Refusal) → List·Memᴰ (firstOf ls) (numbers ls)
 unfolding firstOf
 first-among [] = List·Memᴰ·head refl
 first-among ((true gives n) ∷ ls) = List·Memᴰ·head refl
@@ -86,7 +84,7 @@ module _ (own : List ℕ) where
 open-fair : (room : ℕ) (s : Session) (o : Settings) → Fair (ownNumbers (open-session o)) 0 (openIn room s o)
 unfolding openIn ownNumbers
 open-fair room s o =
-    let ls = openLines (o .opening) ++ roomLines room (s .records) in
+    let ls = openLines (o .opening) ++ roomLines room (s .progress .records) in
     either (10 ∷ 9 ∷ 0 ∷ []) 0 (plain 0) (opening o) (firstOf ls) refl refl refl (first-among ls)
 
 offer-fair : (room : ℕ) (s : Session) (kind rank bank t : ℕ) → Fair (ownNumbers (offer kind rank bank t)) t (offerIn room s kind rank bank t)
@@ -101,8 +99,8 @@ offer-fair room s kind rank bank t = go (isClosed s) (kindOf kind)
     go false NoKind = refuses own t 2 (List·Memᴰ·tail (List·Memᴰ·head refl)) (eqb-false 2 0 refl)
     go false (Kind k) =
         let c : Command = record { kind = k; rank = rank; bank = bank } in
-        let ls = offerLines (s .opening) (afterIn s) (earlyIn s c) c t ++ roomLines room (s .records) in
-        offered own (s .number) (earlyIn s c) c t (firstOf ls) (List·Memᴰ·tail (List·Memᴰ·tail (first-among ls)))
+        let ls = offerLines (s .terms .opening) (afterOf (s .progress)) (earlyIn s c) c t ++ roomLines room (s .progress .records) in
+        offered own (s .terms .number) (earlyIn s c) c t (firstOf ls) (List·Memᴰ·tail (List·Memᴰ·tail (first-among ls)))
 
 take-back-fair : (room : ℕ) (s : Session) → Fair (ownNumbers take-back) 0 (takeBackIn room s)
 unfolding takeBackIn ownNumbers
@@ -114,8 +112,8 @@ take-back-fair room s = go (isClosed s)
     go : (z : Bool) → Fair own 0 (takeBackInCase room s z)
     go true = refuses own 0 1 (List·Memᴰ·head refl) (eqb-false 1 0 refl)
     go false =
-        let ls = depthLines (s .depth) ++ roomLines room (s .records) in
-        either own 0 (plain 0) (takeBack (s .number)) (firstOf ls) refl refl refl (List·Memᴰ·tail (first-among ls))
+        let ls = depthLines (s .progress .depth) ++ roomLines room (s .progress .records) in
+        either own 0 (plain 0) (takeBack (s .terms .number)) (firstOf ls) refl refl refl (List·Memᴰ·tail (first-among ls))
 
 -- what a fair verdict leaves
 shown : (c : Call) (s next : Session) (lent bytes : List ℕ) (reply : Reply) (v : Verdict) → Fair (ownNumbers c) (ownCycle c) v → Left v s lent reply next bytes
@@ -166,7 +164,7 @@ earliest-plain s kind rank bank reply told = subst EarliestPlainly (sym (told .e
     go false NoKind = record { own = List·Memᴰ·tail (List·Memᴰ·head refl); zeros = λ p. (refl, refl) }
     go false (Kind k) =
         let c : Command = record { kind = k; rank = rank; bank = bank } in
-        let ls = placeLines (s .opening) c in
+        let ls = placeLines (s .terms .opening) c in
         asked-plain (earlyIn s c) (firstOf ls) (List·Memᴰ·tail (List·Memᴰ·tail (first-among ls)))
 
 pub status-plain : (s : Session) (status : Status) → Told (statusIn s) (λ h. statusOn h) s status → StatusPlainly status
@@ -188,14 +186,14 @@ stretch-plain s lent part place told hands =
     Inside : Part → Type 0
     Inside p = p .start + p .size ≤ size
 
-    by : (z : Bool) → (leb (recordSize * s .records) size && ltb (s .number) (s .records)) ≡ z
-        → Inside (cond z (record { start = recordSize * s .number; size = recordSize * (s .records - s .number) }) noPart)
-    by true e = let w = and-true (leb (recordSize * s .records) size) (ltb (s .number) (s .records)) e in omega (arith, leb-true (recordSize * s .records) size (w .0), ltb-true (s .number) (s .records) (w .1))
+    by : (z : Bool) → (leb (recordSize * s .progress .records) size && ltb (s .terms .number) (s .progress .records)) ≡ z
+        → Inside (cond z (record { start = recordSize * s .terms .number; size = recordSize * (s .progress .records - s .terms .number) }) noPart)
+    by true e = let w = and-true (leb (recordSize * s .progress .records) size) (ltb (s .terms .number) (s .progress .records)) e in omega (arith, leb-true (recordSize * s .progress .records) size (w .0), ltb-true (s .terms .number) (s .progress .records) (w .1))
     by false e = omega arith
 
     go : (z : Bool) → Inside (stretchInCase s z size)
     go true = omega arith
-    go false = by (leb (recordSize * s .records) size && ltb (s .number) (s .records)) refl
+    go false = by (leb (recordSize * s .progress .records) size && ltb (s .terms .number) (s .progress .records)) refl
 
 -- a restore of any bytes
 pub restore-plain : (bytes : List ℕ) (number at : ℕ) (next : Session) → Restores bytes number at next → RestorePlainly number at next

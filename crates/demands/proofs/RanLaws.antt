@@ -9,7 +9,7 @@ use lib.ListN.{length, take, drop, length-append, length-drop, take-append-drop}
 use lib.Seq.{drop-drop, take-append-le, drop-append-le, take-take}
 use borrow.Author.Tests.{leb-true, leb-false, le-leb, eqb-true, eqb-false}
 use Rattle.history.specs.Records.{History, Current, closed, session, standing}
-use Rattle.history.specs.Answers.{maxRecords, roomOf, Verdict, refused, accepted, replyOf, nextOf, openOn, offerOn, earliestOn, takeBackOn, statusOn}
+use Rattle.history.specs.Answers.{maxRecords, roomOf, Verdict, refused, accepted, replyOf, nextOf, openOn, offerOn, earliestOn, takeBackOn, statusOn, recordSize}
 use Rattle.history.specs.Struck.{Call, open-session, offer, take-back, Answered, unrefused, recordsOf, recordsIn, verdict, LeadsTo, nothing-yet, then}
 use Rattle.history.proofs.AnswerLaws.{Passed, call-passed}
 use Rattle.history.proofs.StandingLaws.{Below, number-below}
@@ -21,8 +21,8 @@ use Rattle.journal.specs.Restore.{written, putAt, bytesAfter, restored, restore
 use Rattle.statements.specs.Rep.{AllSized, Rep}
 use Rattle.statements.specs.Statements.{Restores}
 use Rattle.statements.proofs.KeepsLaws.{fresh-rep}
-use Rattle.statements.specs.Calls.{Move, calls, asks-earliest, asks-status, asks-stretch, Answer, handed, Does}
-use Rattle.demands.specs.Runs.{Event, rightAfter, numberIn, noted, lasting, Run, starts, moves, fails, answerAt, answerBy, standsAt, ends, plays, Placed, putAll, GoesOnAs, GoesOnFrom}
+use Rattle.statements.specs.Calls.{Move, calls, asks-earliest, asks-status, asks-stretch, Heard, handed, Does}
+use Rattle.demands.specs.Runs.{Event, rightAfter, numberIn, noted, lasting, Run, starts, moves, fails, answerAt, answerBy, standsAt, ends, plays, PutRecord, putAll, GoesOnAs, GoesOnFrom}
 use Rattle.demands.proofs.MoveLaws.{answerOn, verdictOn, does-on}
 use Rattle.demands.proofs.WrittenLaws.{length-written, put-behind, older, older-all, older-less, older-length, written-older, restore-cut}
 
@@ -30,7 +30,7 @@ use Rattle.demands.proofs.WrittenLaws.{length-written, put-behind, olde
 pub record Holding (room : ℕ) (h : History) (s : Session) (first j : List ℕ) : Type 0 where
   pub rep : Rep s h
   pub room-is : roomOf (length j) ≡ room
-  pub begins : j ≡ written h ++ drop (64 * length h) first
+  pub begins : j ≡ written h ++ drop (recordSize * length h) first
 
 module _ (room : ℕ) (h : History) where
   -- an accepted move found room
@@ -44,23 +44,23 @@ module _ (room : ℕ) (h : History) where
       → Holding room (nextOf h v) next first after
   next-holds s next first j after (refused r) k p rep is = record { rep = rep; room-is = rw is (k .room-is); begins = is ∙ k .begins }
   next-holds s next first j after (accepted r e) k p rep is =
-      let rest = drop (64 * length h) first in
+      let rest = drop (recordSize * length h) first in
       let begins : j ≡ written h ++ rest = k .begins in
-      let put : putAt j (64 * length h) (bytesOf e) ≡ written (e ∷ h) ++ drop 64 rest = ap (λ (z : List ℕ). putAt z (64 * length h) (bytesOf e)) begins ∙ put-behind h e rest (k .rep .sized) (rep .sized .0) in
-      let behind : drop 64 rest ≡ drop (64 * length h + 64) first = drop-drop 64 (64 * length h) first in
-      let place : 64 * length h + 64 ≡ 64 * suc (length h) = omega arith in
-      let all : after ≡ written (e ∷ h) ++ drop (64 * suc (length h)) first = is ∙ put ∙ ap (λ (z : List ℕ). written (e ∷ h) ++ z) (behind ∙ ap (λ (n : ℕ). drop n first) place) in
+      let put : putAt j (recordSize * length h) (bytesOf e) ≡ written (e ∷ h) ++ drop recordSize rest = ap (λ (z : List ℕ). putAt z (recordSize * length h) (bytesOf e)) begins ∙ put-behind h e rest (k .rep .sized) (rep .sized .0) in
+      let behind : drop recordSize rest ≡ drop (recordSize * length h + recordSize) first = drop-drop recordSize (recordSize * length h) first in
+      let place : recordSize * length h + recordSize ≡ recordSize * suc (length h) = omega arith in
+      let all : after ≡ written (e ∷ h) ++ drop (recordSize * suc (length h)) first = is ∙ put ∙ ap (λ (z : List ℕ). written (e ∷ h) ++ z) (behind ∙ ap (λ (n : ℕ). drop n first) place) in
       let size : length after ≡ length j =
-      (let one = ap length (is ∙ put) ∙ length-append (written (e ∷ h)) (drop 64 rest) in
+      (let one = ap length (is ∙ put) ∙ length-append (written (e ∷ h)) (drop recordSize rest) in
       let two = ap length begins ∙ length-append (written h) rest in
-      let left = length-drop 64 rest in
+      let left = length-drop recordSize rest in
       let long = length-written (e ∷ h) (rep .sized) in
       let before = length-written h (k .rep .sized) in
-      let room : length h < min (length j / 64) maxRecords = rw (k .room-is) (p .2) in
+      let room : length h < min (length j / recordSize) maxRecords = rw (k .room-is) (p .2) in
       omega (arith, one, two, left, long, before, room)) in
       record { rep = rep; room-is = ap roomOf size ∙ k .room-is; begins = all }
 
-pub does-holds : (room : ℕ) (h : History) {m : Move} {s next : Session} {first j after : List ℕ} {a : Answer} → Holding room h s first j → Does m s j a next after
+pub does-holds : (room : ℕ) (h : History) {m : Move} {s next : Session} {first j after : List ℕ} {a : Heard} → Holding room h s first j → Does m s j a next after
     → Holding room (nextOf h (verdictOn room h m)) next first after
 does-holds room h {m} {s} {next} {first} {j} {after} k d =
     let w = does-on d h (k .rep) in
@@ -95,16 +95,16 @@ leads-right-after (then {ps = ps} {h = h} before room c) n l = go (leb (recordsI
         subst (LeadsTo (rightAfter n ps)) (sym (w .1)) (on (w .0))
 
 -- a restore of the first k bytes gives the first k / 64 records
-module _ (room : ℕ) (h : History) (s next : Session) (first j after : List ℕ) (k : ℕ) (is : Holding room h s first j) (l : k ≤ 64 * length h)
+module _ (room : ℕ) (h : History) (s next : Session) (first j after : List ℕ) (k : ℕ) (is : Holding room h s first j) (l : k ≤ recordSize * length h)
     (same : take k after ≡ take k j) (number at : ℕ) (told : Restores (take k after) number at next) where
   abbrev whole : ℕ
-  whole = k / 64
+  whole = k / recordSize
 
   inside : whole ≤ length h
   inside = omega (arith, l)
 
   cut-gives : restoreOf (take k after) ≡ restored (older whole h)
-  cut-gives = ap (λ (z : List ℕ). restoreOf z) (same ∙ ap (take k) (is .begins)) ∙ restore-cut h (is .rep .sized) (is .rep .isFine) (is .rep .few) (drop (64 * length h) first) k l
+  cut-gives = ap (λ (z : List ℕ). restoreOf z) (same ∙ ap (take k) (is .begins)) ∙ restore-cut h (is .rep .sized) (is .rep .isFine) (is .rep .few) (drop (recordSize * length h) first) k l
 
   pub cut-number : (number ≡ 0) × (at ≡ 0)
   cut-number = (told .answer ∙ ap restoreNumber cut-gives, told .beside ∙ ap restoreAt cut-gives)
@@ -112,17 +112,17 @@ module _ (room : ℕ) (h : History) (s next : Session) (first j after : List ℕ
   pub cut-holds : roomOf (length after) ≡ room → Holding room (older whole h) next after after
   cut-holds room-is =
       let size = older-length h whole inside in
-      let front : take (64 * whole) after ≡ written (older whole h) =
-      sym (take-take (64 * whole) k after (omega arith))
-      ∙ ap (take (64 * whole)) same
-      ∙ take-take (64 * whole) k j (omega arith)
-      ∙ ap (take (64 * whole)) (is .begins)
-      ∙ take-append-le (64 * whole) (written h) (drop (64 * length h) first) (let long = length-written h (is .rep .sized) in omega (arith, long, inside))
+      let front : take (recordSize * whole) after ≡ written (older whole h) =
+      sym (take-take (recordSize * whole) k after (omega arith))
+      ∙ ap (take (recordSize * whole)) same
+      ∙ take-take (recordSize * whole) k j (omega arith)
+      ∙ ap (take (recordSize * whole)) (is .begins)
+      ∙ take-append-le (recordSize * whole) (written h) (drop (recordSize * length h) first) (let long = length-written h (is .rep .sized) in omega (arith, long, inside))
       ∙ written-older h (is .rep .sized) whole inside in
       record {
         rep = subst (Rep next) (ap historyOf cut-gives) (told .state);
         room-is = room-is;
-        begins = sym (take-append-drop (64 * whole) after) ∙ ap (λ (z : List ℕ). z ++ drop (64 * whole) after) front ∙ ap (λ (n : ℕ). written (older whole h) ++ drop (64 * n) after) (sym size);
+        begins = sym (take-append-drop (recordSize * whole) after) ∙ ap (λ (z : List ℕ). z ++ drop (recordSize * whole) after) front ∙ ap (λ (n : ℕ). written (older whole h) ++ drop (recordSize * n) after) (sym size);
       }
 
 -- what a run has come to
@@ -131,7 +131,7 @@ pub record Came (room : ℕ) (es : List Event) (s : Session) (first j : List ℕ
   pub told : LeadsTo (lasting es) records
   pub holding : Holding room records s first j
 
-pub noted-told : (m : Move) (room : ℕ) (ps : List Answered) (h : History) (j : List ℕ) (a : Answer) → LeadsTo ps h → a ≡ answerOn room h m j → LeadsTo (noted m (numberIn a) ps) (nextOf h (verdictOn room h m))
+pub noted-told : (m : Move) (room : ℕ) (ps : List Answered) (h : History) (j : List ℕ) (a : Heard) → LeadsTo ps h → a ≡ answerOn room h m j → LeadsTo (noted m (numberIn a) ps) (nextOf h (verdictOn room h m))
 noted-told (calls c) room ps h j a told is = subst (λ (n : ℕ). LeadsTo (record { call = c; number = n } ∷ ps) (nextOf h (verdict room h c))) (sym (ap numberIn is)) (then told room c)
 noted-told (asks-earliest kind rank bank) room ps h j a told is = told
 noted-told asks-status room ps h j a told is = told
@@ -150,10 +150,10 @@ came {room} (moves {es = es} {j = j} {m = m} {a = a} before d) =
     }
 came {room} (fails {s = s} {next = next} {first = first} {j = j} before k l after room-is same number at told) =
     let w = came before in
-    let low : k ≤ 64 * length (w .records) = rw (w .holding .rep .records) at l in
+    let low : k ≤ recordSize * length (w .records) = rw (w .holding .rep .records) at l in
     record {
-      records = older (k / 64) (w .records);
-      told = leads-right-after (w .told) (k / 64) (omega (arith, low));
+      records = older (k / recordSize) (w .records);
+      told = leads-right-after (w .told) (k / recordSize) (omega (arith, low));
       holding = cut-holds room (w .records) s next first j after k (w .holding) low same number at told room-is;
     }
 
@@ -171,7 +171,7 @@ by-calls room ps h told m j = rw (← leads-current told, ← leads-kept told .c
     go asks-stretch = refl
 
 -- DEMAND 3, first half. After any run each move gets document 01's answer over the calls and answers that last
-pub demand-three : {room : ℕ} {es : List Event} {s next : Session} {first j after : List ℕ} {m : Move} {a : Answer}
+pub demand-three : {room : ℕ} {es : List Event} {s next : Session} {first j after : List ℕ} {m : Move} {a : Heard}
     → Run room es s first j → Does m s j a next after → a ≡ answerBy room (lasting es) m j
 demand-three {room} {es} {j = j} {m = m} run d =
     let w = came run in
@@ -181,11 +181,11 @@ demand-three {room} {es} {j = j} {m = m} run d =
 
 -- the journal begins with the accepted records' bytes, and no byte behind them has changed
 pub journal-begins : {room : ℕ} {es : List Event} {s : Session} {first j : List ℕ}
-    → Run room es s first j → j ≡ written (recordsOf (unrefused (lasting es))) ++ drop (64 * recordsIn (lasting es)) first
+    → Run room es s first j → j ≡ written (recordsOf (unrefused (lasting es))) ++ drop (recordSize * recordsIn (lasting es)) first
 journal-begins {es = es} {first = first} {j = j} run =
     let w = came run in
     let k = leads-kept (w .told) in
-    w .holding .begins ∙ ap (λ (n : ℕ). written (w .records) ++ drop (64 * n) first) (k .count) ∙ ap (λ (h : History). written h ++ drop (64 * recordsIn (lasting es)) first) (k .records)
+    w .holding .begins ∙ ap (λ (n : ℕ). written (w .records) ++ drop (recordSize * n) first) (k .count) ∙ ap (λ (h : History). written h ++ drop (recordSize * recordsIn (lasting es)) first) (k .records)
 
 -- THE SAME ANSWERS from two states and journals that hold one history. The stretch lies inside the history's bytes
 part-inside : (w rest : List ℕ) (p : Part) → p .start + p .size ≤ length w → partOf p (w ++ rest) ≡ partOf p w
@@ -201,21 +201,21 @@ module _ (h : History) (sized : AllSized h) where
   unfolding stretchOf
   stretch-of rest = go (standing h) (number-below h)
     where
-      size : length bytes ≡ 64 * length h
+      size : length bytes ≡ recordSize * length h
       size = length-written h sized
 
-      fits : leb (64 * length h) (length bytes) ≡ true
-      fits = le-leb (64 * length h) (length bytes) (omega (arith, size))
+      fits : leb (recordSize * length h) (length bytes) ≡ true
+      fits = le-leb (recordSize * length h) (length bytes) (omega (arith, size))
 
-      fits-too : leb (64 * length h) (length (bytes ++ rest)) ≡ true
-      fits-too = let both = length-append bytes rest in le-leb (64 * length h) (length (bytes ++ rest)) (omega (arith, size, both))
+      fits-too : leb (recordSize * length h) (length (bytes ++ rest)) ≡ true
+      fits-too = let both = length-append bytes rest in le-leb (recordSize * length h) (length (bytes ++ rest)) (omega (arith, size, both))
 
       go : (k : Current) → Below (length h) k
           → (stretchCase (length h) k (length (bytes ++ rest)) ≡ stretchCase (length h) k (length bytes)) × (partOf (stretchCase (length h) k (length (bytes ++ rest))) (bytes ++ rest) ≡ partOf (stretchCase (length h) k (length bytes)) bytes)
       go closed l = (refl, refl)
       go (session st) l =
           rw (fits, fits-too)
-          (refl, part-inside bytes rest (record { start = 64 * st .number; size = 64 * (length h - st .number) }) (omega (arith, size, l)))
+          (refl, part-inside bytes rest (record { start = recordSize * st .number; size = recordSize * (length h - st .number) }) (omega (arith, size, l)))
 
   same-answer : (room : ℕ) (m : Move) (rest rest′ : List ℕ) → answerOn room h m (bytes ++ rest) ≡ answerOn room h m (bytes ++ rest′)
   same-answer room (calls c) rest rest′ = refl
@@ -227,11 +227,11 @@ module _ (h : History) (sized : AllSized h) where
       handed-same x = let w = stretch-of x in ap (λ (b : List ℕ). handed (stretchOf h (length (bytes ++ x))) b) (w .1) ∙ ap (λ (p : Part). handed p (partOf (stretchOf h (length bytes)) bytes)) (w .0)
 
 -- the records of one more move
-abbrev putOf : ℕ → Verdict → List Placed → List Placed
+abbrev putOf : ℕ → Verdict → List PutRecord → List PutRecord
 putOf n (refused r) ps = ps
 putOf n (accepted r e) ps = record { number = n; one = e } ∷ ps
 
-put-one : (n : ℕ) (v : Verdict) (ps : List Placed) (j : List ℕ) → putAll ps (bytesAfter j n v) ≡ putAll (putOf n v ps) j
+put-one : (n : ℕ) (v : Verdict) (ps : List PutRecord) (j : List ℕ) → putAll ps (bytesAfter j n v) ≡ putAll (putOf n v ps) j
 unfolding putAll
 put-one n (refused r) ps j = refl
 put-one n (accepted r e) ps j = refl
@@ -249,12 +249,12 @@ goes-on room h s s′ first first′ j j′ k k′ ms xs xs′ last last′ fina
     let same : a ≡ a′ =
     told
     ∙ ap (answerOn room h m) (k .begins)
-    ∙ same-answer h (k .rep .sized) room m (drop (64 * length h) first) (drop (64 * length h) first′)
+    ∙ same-answer h (k .rep .sized) room m (drop (recordSize * length h) first) (drop (recordSize * length h) first′)
     ∙ ap (answerOn room h m) (sym (k′ .begins))
     ∙ sym told′ in
     let bytes : after ≡ bytesAfter j (length h) v = subst (λ (n : ℕ). after ≡ bytesAfter j (length h) (verdictOn n h m)) (k .room-is) (one .bytes) in
     let bytes′ : after′ ≡ bytesAfter j′ (length h) v = subst (λ (n : ℕ). after′ ≡ bytesAfter j′ (length h) (verdictOn n h m)) (k′ .room-is) (other .bytes) in (
-      ap (λ (x : Answer). x ∷ as₁) same ∙ ap (λ (xs : List Answer). a′ ∷ xs) (rest .0),
+      ap (λ (x : Heard). x ∷ as₁) same ∙ ap (λ (xs : List Heard). a′ ∷ xs) (rest .0),
       record {
         puts = putOf (length h) v (rest .1 .puts);
         one = rest .1 .one ∙ ap (putAll (rest .1 .puts)) bytes ∙ put-one (length h) v (rest .1 .puts) j;
@@ -311,24 +311,24 @@ module _ {room : ℕ} where
       now-or-before (fails before k low after room-is same number at told) n l
       (λ less.
       let h = came before .records in
-      let inside : k / 64 ≤ length h = omega (arith, came before .holding .rep .records, low) in
-      let size = older-length h (k / 64) inside in
-      let fits : n ≤ k / 64 = omega (arith, size, less) in
-      subst (Moment room (standsAt n es)) (sym (older-older n (k / 64) h fits inside)) (moment before n (omega (arith, fits, inside))))
+      let inside : k / recordSize ≤ length h = omega (arith, came before .holding .rep .records, low) in
+      let size = older-length h (k / recordSize) inside in
+      let fits : n ≤ k / recordSize = omega (arith, size, less) in
+      subst (Moment room (standsAt n es)) (sym (older-older n (k / recordSize) h fits inside)) (moment before n (omega (arith, fits, inside))))
 
 -- DEMAND 3, second half. The mains fail after any run, and the first k bytes are left. The restore answers 0, and what it gives goes on as the run
 -- did right after record k / 64 was last written, over any journal with these first bytes and this room
 pub cut : {room : ℕ} {es : List Event} {last next : Session} {first j after : List ℕ} {k number at : ℕ}
-    → Run room es last first j → k ≤ 64 * last .records → roomOf (length after) ≡ room → take k after ≡ take k j → Restores (take k after) number at next
-    → (number ≡ 0) × (at ≡ 0) × GoesOnFrom room (k / 64) es next after
+    → Run room es last first j → k ≤ recordSize * last .progress .records → roomOf (length after) ≡ room → take k after ≡ take k j → Restores (take k after) number at next
+    → (number ≡ 0) × (at ≡ 0) × GoesOnFrom room (k / recordSize) es next after
 cut {room} {es} {last} {next} {first} {j} {after} {k} {number} {at} run l room-is same told =
     let w = came run in
     let h = w .records in
-    let low : k ≤ 64 * length h = rw (w .holding .rep .records) at l in
-    let inside : k / 64 ≤ length h = omega (arith, low) in
+    let low : k ≤ recordSize * length h = rw (w .holding .rep .records) at l in
+    let inside : k / recordSize ≤ length h = omega (arith, low) in
     let numbers = cut-number room h last next first j after k (w .holding) low same number at told in
     let restored-holds = cut-holds room h last next first j after k (w .holding) low same number at told room-is in
-    let m = moment run (k / 64) inside in (
+    let m = moment run (k / recordSize) inside in (
       numbers .0,
       numbers .1,
       record {
@@ -336,8 +336,8 @@ cut {room} {es} {last} {next} {first} {j} {after} {k} {number} {at} run l room-i
         begun = m .begun;
         journal = m .journal;
         run = m .run;
-        count = m .holding .rep .records ∙ older-length h (k / 64) inside;
-        on = goes-on room (older (k / 64) h) next (m .state) after (m .begun) after (m .journal) restored-holds (m .holding);
+        count = m .holding .rep .records ∙ older-length h (k / recordSize) inside;
+        on = goes-on room (older (k / recordSize) h) next (m .state) after (m .begun) after (m .journal) restored-holds (m .holding);
       },
     )
 
@@ -365,9 +365,9 @@ none-left (a ∷ ps) = go (leb (recordsIn (a ∷ ps)) 0) refl (none-left ps)
 
 -- where no whole record is left, the restored state goes on as a fresh one
 pub cut-fresh : {room : ℕ} {es : List Event} {s next : Session} {first j after blank : List ℕ} {k number at : ℕ}
-    → Run room es s first j → k ≤ 64 * s .records → k < 64 → roomOf (length after) ≡ room → take k after ≡ take k j → Restores (take k after) number at next
+    → Run room es s first j → k ≤ recordSize * s .progress .records → k < recordSize → roomOf (length after) ≡ room → take k after ≡ take k j → Restores (take k after) number at next
     → roomOf (length blank) ≡ room → GoesOnAs next after freshState blank
 unfolding lasting unrefused
 cut-fresh {es = es} {after = after} {blank = blank} {k = k} {number = number} {at = at} run l short room-is same told blank-room =
-    let none : k / 64 ≡ 0 = omega arith in
+    let none : k / recordSize ≡ 0 = omega arith in
     same-calls (fails run k l after room-is same number at told) (starts blank blank-room) (ap (λ (n : ℕ). unrefused (rightAfter n (lasting es))) none ∙ none-left (lasting es))

@@ -10,25 +10,25 @@ use lib.Seq.{take-at, drop-append-add, take-append-le, take-all, take-take, leng
 use borrow.Author.Tests.{leb-true, leb-false, le-ltb}
 use Rattle.timing.proofs.Truth.{and-left, and-right, true-is}
 use Rattle.history.specs.Records.{Record, History, standing}
-use Rattle.history.specs.Answers.{maxRecords, fits, follows, fine}
+use Rattle.history.specs.Answers.{maxRecords, fits, follows, fine, recordSize}
 use Rattle.journal.specs.Bytes.{bytesOf, Sized, Held, holding, nothing}
 use Rattle.journal.specs.Restore.{written, putAt, pieces, taken, restored, orBad, replay, restoreOf, historyOf}
 use Rattle.journal.proofs.Codec.{bytes-size, read-written}
 use Rattle.journal.proofs.PieceLaws.{pieces-join}
 use Rattle.statements.specs.Rep.{AllSized}
 
-pub length-written : (h : History) → AllSized h → length (written h) ≡ 64 * length h
+pub length-written : (h : History) → AllSized h → length (written h) ≡ recordSize * length h
 unfolding written
 length-written [] sized = refl
 length-written (r ∷ h) sized = length-append (written h) (bytesOf r) ∙ omega (arith, length-written h (sized .1), bytes-size r (sized .0))
 
 -- a record behind them
-pub put-behind : (h : History) (e : Record) (rest : List ℕ) → AllSized h → Sized e → putAt (written h ++ rest) (64 * length h) (bytesOf e) ≡ written (e ∷ h) ++ drop 64 rest
+pub put-behind : (h : History) (e : Record) (rest : List ℕ) → AllSized h → Sized e → putAt (written h ++ rest) (recordSize * length h) (bytesOf e) ≡ written (e ∷ h) ++ drop recordSize rest
 unfolding written
 put-behind h e rest sized one =
     let size = length-written h sized in
-    let place : 64 * length h + length (bytesOf e) ≡ length (written h) + 64 = omega (arith, bytes-size e one, size) in
-    rw (take-at (written h) rest (64 * length h) size, place, drop-append-add (written h) rest 64)
+    let place : recordSize * length h + length (bytesOf e) ≡ length (written h) + recordSize = omega (arith, bytes-size e one, size) in
+    rw (take-at (written h) rest (recordSize * length h) size, place, drop-append-add (written h) rest recordSize)
 
 -- the first n records
 abbrev pub older : ℕ → History → History
@@ -54,20 +54,20 @@ fine-older zero h f = f
 fine-older (suc k) [] f = f
 fine-older (suc k) (r ∷ h) f = fine-older k h (and-right (fits (standing h) r && follows (standing h) r) (fine h) f)
 
-pub written-older : (h : History) → AllSized h → (n : ℕ) → n ≤ length h → take (64 * n) (written h) ≡ written (older n h)
+pub written-older : (h : History) → AllSized h → (n : ℕ) → n ≤ length h → take (recordSize * n) (written h) ≡ written (older n h)
 unfolding written
 written-older [] sized n l = let none : n ≡ 0 = omega arith in rw none
 written-older (r ∷ h) sized n l = go (leb n (length h)) refl (written-older h (sized .1) n)
   where
-    go : (t : Bool) → leb n (length h) ≡ t → (n ≤ length h → take (64 * n) (written h) ≡ written (older n h)) → take (64 * n) (written h ++ bytesOf r) ≡ written (older n (r ∷ h))
+    go : (t : Bool) → leb n (length h) ≡ t → (n ≤ length h → take (recordSize * n) (written h) ≡ written (older n h)) → take (recordSize * n) (written h ++ bytesOf r) ≡ written (older n (r ∷ h))
     go true e before =
         let less = leb-true n (length h) e in
         let size = length-written h (sized .1) in
-        take-append-le (64 * n) (written h) (bytesOf r) (omega (arith, less, size)) ∙ before less ∙ ap written (sym (older-less r h n less))
+        take-append-le (recordSize * n) (written h) (bytesOf r) (omega (arith, less, size)) ∙ before less ∙ ap written (sym (older-less r h n less))
     go false e before =
         let all : n ≡ length (r ∷ h) = omega (arith, leb-false n (length h) e, l) in
-        let size : length (written h ++ bytesOf r) ≡ 64 * suc (length h) = length-written (r ∷ h) sized in
-        take-all (64 * n) (written h ++ bytesOf r) (omega (arith, all, size)) ∙ ap written (sym (older-all (r ∷ h) n all))
+        let size : length (written h ++ bytesOf r) ≡ recordSize * suc (length h) = length-written (r ∷ h) sized in
+        take-all (recordSize * n) (written h ++ bytesOf r) (omega (arith, all, size)) ∙ ap written (sym (older-all (r ∷ h) n all))
 
 -- a replay goes on where a part of it ended
 replay-on : (ps qs : List (List ℕ)) (h g : History) → replay ps h ≡ restored g → replay (ps ++ qs) h ≡ replay qs g
@@ -91,18 +91,18 @@ replay-written (r ∷ h) sized f =
     let size = length-written h (sized .1) in
     let both = and-left (fits (standing h) r && follows (standing h) r) (fine h) f in
     let more : suc (length h) ≡ length h + 1 = omega arith in
-    let whole : take 64 (bytesOf r) ≡ bytesOf r = take-all 64 (bytesOf r) (omega (arith, bytes-size r (sized .0))) in
+    let whole : take recordSize (bytesOf r) ≡ bytesOf r = take-all recordSize (bytesOf r) (omega (arith, bytes-size r (sized .0))) in
     ap (λ (n : ℕ). replay (pieces n (written h ++ bytesOf r)) []) more
     ∙ ap (λ (ps : List (List ℕ)). replay ps []) (pieces-join (length h) 1 (written h) (bytesOf r) size)
-    ∙ replay-on (pieces (length h) (written h)) (take 64 (bytesOf r) ∷ []) [] h (replay-written h (sized .1) (and-right (fits (standing h) r && follows (standing h) r) (fine h) f))
+    ∙ replay-on (pieces (length h) (written h)) (take recordSize (bytesOf r) ∷ []) [] h (replay-written h (sized .1) (and-right (fits (standing h) r && follows (standing h) r) (fine h) f))
     ∙ rw (whole, taken-written h r (sized .0) (true-is (fits (standing h) r) (and-left (fits (standing h) r) (follows (standing h) r) both)) (true-is (follows (standing h) r) (and-right (fits (standing h) r) (follows (standing h) r) both)))
 
 -- records and up to 63 bytes behind them restore to the records
-restore-records : (h : History) → AllSized h → T (fine h) → length h ≤ maxRecords → (loose : List ℕ) → length loose < 64 → restoreOf (written h ++ loose) ≡ restored h
+restore-records : (h : History) → AllSized h → T (fine h) → length h ≤ maxRecords → (loose : List ℕ) → length loose < recordSize → restoreOf (written h ++ loose) ≡ restored h
 unfolding restoreOf pieces
 restore-records h sized f few loose short =
     let size = length-written h sized in
-    let count : length (written h ++ loose) / 64 ≡ length h = (let both = length-append (written h) loose in omega (arith, both, size)) in
+    let count : length (written h ++ loose) / recordSize ≡ length h = (let both = length-append (written h) loose in omega (arith, both, size)) in
     let none : length h ≡ length h + 0 = omega arith in
     rw (count, le-ltb maxRecords (length h) few)
     (ap (λ (n : ℕ). replay (pieces n (written h ++ loose)) []) none
@@ -110,16 +110,16 @@ restore-records h sized f few loose short =
     ∙ replay-written h sized f)
 
 -- THE CUT: the first k bytes of a journal that begins with a history's bytes restore to its first k / 64 records
-pub restore-cut : (h : History) → AllSized h → T (fine h) → length h ≤ maxRecords → (rest : List ℕ) (k : ℕ) → k ≤ 64 * length h
-    → restoreOf (take k (written h ++ rest)) ≡ restored (older (k / 64) h)
+pub restore-cut : (h : History) → AllSized h → T (fine h) → length h ≤ maxRecords → (rest : List ℕ) (k : ℕ) → k ≤ recordSize * length h
+    → restoreOf (take k (written h ++ rest)) ≡ restored (older (k / recordSize) h)
 restore-cut h sized f few rest k l =
-    let n = k / 64 in
+    let n = k / recordSize in
     let size = length-written h sized in
     let inside : n ≤ length h = omega arith in
     let cut : take k (written h ++ rest) ≡ take k (written h) = take-append-le k (written h) rest (omega (arith, size)) in
-    let front : take (64 * n) (take k (written h)) ≡ written (older n h) = take-take (64 * n) k (written h) (omega arith) ∙ written-older h sized n inside in
+    let front : take (recordSize * n) (take k (written h)) ≡ written (older n h) = take-take (recordSize * n) k (written h) (omega arith) ∙ written-older h sized n inside in
     let long : length (take k (written h)) ≡ k = length-take-le k (written h) (omega (arith, size)) in
-    let loose = drop (64 * n) (take k (written h)) in
-    let short : length loose < 64 = (let left = length-drop (64 * n) (take k (written h)) in omega (arith, left, long)) in
-    ap restoreOf (cut ∙ sym (take-append-drop (64 * n) (take k (written h))) ∙ ap (λ (z : List ℕ). z ++ loose) front)
+    let loose = drop (recordSize * n) (take k (written h)) in
+    let short : length loose < recordSize = (let left = length-drop (recordSize * n) (take k (written h)) in omega (arith, left, long)) in
+    ap restoreOf (cut ∙ sym (take-append-drop (recordSize * n) (take k (written h))) ∙ ap (λ (z : List ℕ). z ++ loose) front)
     ∙ restore-records (older n h) (sized-older (length h - n) h sized) (fine-older (length h - n) h f) (omega (arith, older-length h n inside, few)) loose short

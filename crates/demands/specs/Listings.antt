@@ -4,8 +4,7 @@ use mathlib.Core.List.{List, [], _∷_, _++_}
 use Prim.Native.Nat.{ℕ, _/_, _%_}
 use lib.ListN.{length, take}
 use Rattle.history.specs.Records.{History}
-use Rattle.history.specs.Answers.{maxRecords}
-use Rattle.journal.specs.Bytes.{recordSize}
+use Rattle.history.specs.Answers.{maxRecords, recordSize}
 use Rattle.journal.specs.Restore.{wholeRecords, tooLong, badAt, restored, replay, restoreOf}
 use Rattle.journal.specs.Listing.{recordLine, badLine, endLine, listing}
 

@@ -6,7 +6,7 @@ use Rattle.history.specs.Records.{opening}
 use Rattle.history.specs.Cases.{settings, gapsA, changed, gaps, reply}
 use Rattle.history.specs.Struck.{open-session, offer, take-back}
 use Rattle.journal.specs.Bytes.{zeros, bytesOf}
-use Rattle.statements.specs.Calls.{Move, calls, asks-earliest, asks-status, Answer, replied, stated}
+use Rattle.statements.specs.Calls.{Move, calls, asks-earliest, asks-status, Heard, replied, stated}
 
 -- room for ten records
 abbrev pub blank : List ℕ
@@ -33,10 +33,10 @@ shortMoves =
     asks-status ∷
     []
 
-abbrev pub status : ℕ → ℕ → ℕ → ℕ → Answer
+abbrev pub status : ℕ → ℕ → ℕ → ℕ → Heard
 status survivors depth last records = stated (record { number = 0; client = 7; opening = 0; survivors = survivors; depth = depth; last = last; records = records })
 
-unfoldable pub shortAnswers : List Answer
+unfoldable pub shortAnswers : List Heard
 shortAnswers =
     replied (reply 0 0 0) ∷
     replied (reply 0 0 0) ∷
@@ -64,7 +64,7 @@ windowMoves =
     asks-earliest 1 0 4 ∷
     []
 
-unfoldable pub windowAnswers : List Answer
+unfoldable pub windowAnswers : List Heard
 windowAnswers =
     replied (reply 0 0 0) ∷
     replied (reply 0 0 0) ∷

@@ -11,26 +11,26 @@ use Rattle.timing.specs.declared.rules.Command.{Command}
 use Rattle.timing.specs.Kinds.{kindOf}
 use Rattle.timing.specs.Earliest.{Standing, AsksFor, Legal, NamedGap, floor, earliest}
 use Rattle.history.specs.Records.{Current, closed, session}
-use Rattle.history.specs.Answers.{Line, _gives_, firstOf, openLines, placeLines, stampLines, offerLines, depthLines, roomLines, Reply}
+use Rattle.history.specs.Answers.{Refusal, _gives_, firstOf, openLines, placeLines, stampLines, offerLines, depthLines, roomLines, Reply}
 use Rattle.history.specs.Struck.{open-session, offer, take-back}
 use Rattle.statements.specs.Calls.{Move, calls, asks-earliest, asks-status, asks-stretch}
 
 -- a number is given by the line that holds where none before it does; 0 where none holds
-pub data Given : List Line → ℕ → Type 0 where
+pub data Given : List Refusal → ℕ → Type 0 where
   none : Given [] 0
-  this : {test : Bool} {n : ℕ} {ls : List Line} → test ≡ true → Given ((test gives n) ∷ ls) n
-  a-later : {test : Bool} {m n : ℕ} {ls : List Line} → test ≡ false → Given ls n → Given ((test gives m) ∷ ls) n
+  this : {test : Bool} {n : ℕ} {ls : List Refusal} → test ≡ true → Given ((test gives n) ∷ ls) n
+  a-later : {test : Bool} {m n : ℕ} {ls : List Refusal} → test ≡ false → Given ls n → Given ((test gives m) ∷ ls) n
 
 -- every move's lines in document 01's order, by the room, the count of records and what stands
-abbrev pub kindLines : MaybeKind → (CommandKind → List Line) → List Line
+abbrev pub kindLines : MaybeKind → (CommandKind → List Refusal) → List Refusal
 kindLines NoKind more = (true gives 2) ∷ []
 kindLines (Kind k) more = (false gives 2) ∷ more k
 
-abbrev pub openedLines : Current → (Standing → List Line) → List Line
+abbrev pub openedLines : Current → (Standing → List Refusal) → List Refusal
 openedLines closed more = (true gives 1) ∷ []
 openedLines (session st) more = (false gives 1) ∷ more st
 
-unfoldable pub linesOf : ℕ → ℕ → Current → Move → List Line
+unfoldable pub linesOf : ℕ → ℕ → Current → Move → List Refusal
 linesOf room count now (calls (open-session o)) = openLines (o .opening) ++ roomLines room count
 linesOf room count now (calls (offer kind rank bank t)) =
     openedLines now

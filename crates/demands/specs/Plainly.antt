@@ -5,11 +5,11 @@ use mathlib.Core.List.{List, [], _∷_, List·Memᴰ}
 use Prim.Native.Nat.{ℕ, _+_, _*_, _≤_}
 use lib.ListN.{length}
 use Rattle.history.specs.Records.{Record}
-use Rattle.history.specs.Answers.{Reply, Status}
+use Rattle.history.specs.Answers.{Reply, Status, recordSize}
 use Rattle.history.specs.Struck.{Call, open-session, offer, take-back}
 use Rattle.session.specs.declared.state.Session.{Session}
 use Rattle.session.specs.State.{freshState}
-use Rattle.journal.specs.Bytes.{recordSize, bytesOf}
+use Rattle.journal.specs.Bytes.{bytesOf}
 use Rattle.journal.specs.Restore.{putAt, Part}
 use Rattle.statements.specs.Calls.{Seen, partIn}
 
@@ -28,7 +28,7 @@ ownCycle take-back = 0
 -- exactly the 64 bytes at 64 times the record count are this record's
 pub record Writes (s : Session) (lent bytes : List ℕ) : Type 0 where
   pub one : Record
-  pub place : bytes ≡ putAt lent (recordSize * s .records) (bytesOf one)
+  pub place : bytes ≡ putAt lent (recordSize * s .progress .records) (bytesOf one)
 
 pub record Plainly (c : Call) (s : Session) (lent : List ℕ) (reply : Reply) (next : Session) (bytes : List ℕ) : Type 0 where
   pub own : List·Memᴰ (reply .number) (ownNumbers c)
@@ -57,4 +57,4 @@ pub record RestorePlainly (number at : ℕ) (next : Session) : Type 0 where
   pub own : List·Memᴰ number (9 ∷ 11 ∷ 0 ∷ [])
   pub zeros : number ≢ 11 → at ≡ 0
   pub refused : number ≢ 0 → next ≡ freshState
-  pub no-session : number ≢ 0 → next .«is_open» ≡ 0
+  pub no-session : number ≢ 0 → next .terms .«is_open» ≡ 0

@@ -1,4 +1,3 @@
 pub mod Fill
 pub mod RepLaws
-pub mod ScanLaws
 pub mod StoreLaws

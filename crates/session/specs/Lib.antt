@@ -1,4 +1,3 @@
 pub mod Stamps
 pub mod State
-pub mod Scan
 pub mod Rep

@@ -6,16 +6,16 @@ use mathlib.Core.List.{List, [], _∷_, map}
 use Prim.Native.Nat.{ℕ, _+_, _-_, _%_, _<_, _≤_}
 use lib.Dec.{T, eqb}
 use lib.ListN.{length, getD, drop}
-use Rattle.timing.specs.declared.clocks.ControllerCycles.{ControllerCycles}
 use Rattle.timing.specs.declared.kinds.CommandKind.the-variants.{Act}
 use Rattle.timing.specs.declared.rules.Command.{Command}
-use Rattle.timing.specs.Clocks.{cycles}
 use Rattle.timing.specs.Kinds.{sameKind}
 use Rattle.timing.specs.Earliest.{Stamped, cycleAfter, acts}
+use Rattle.session.specs.declared.stamps.Stamp.{Stamp}
 use Rattle.session.specs.declared.state.Entry.{Entry}
+use Rattle.session.specs.declared.state.Progress.{Progress}
 use Rattle.session.specs.declared.state.Session.{Session}
-use Rattle.session.specs.Stamps.{cycleBound}
-use Rattle.session.specs.State.{slotOf, stampAt, noEntry}
+use Rattle.session.specs.Stamps.{stamp, cycleBound}
+use Rattle.session.specs.State.{slots, maxDepth, slotOf, stampAt, noEntry}
 
 -- the stamp of the latest survivor of a slot, 0 where there is none
 unfoldable pub stampIn : ℕ → List Stamped → ℕ
@@ -26,16 +26,16 @@ stampIn slot (x ∷ xs) = cond (eqb (slotOf (x .command)) slot) (x .cycle + 1) (
 abbrev pub actIn : ℕ → ℕ → List Stamped → ℕ
 actIn rank i xs = getD (map (λ x. x .cycle + 1) (acts rank xs)) i 0
 
-abbrev pub actsIn : List Stamped → List ControllerCycles
+abbrev pub actsIn : List Stamped → List Stamp
 actsIn xs =
-    cycles (actIn 0 0 xs) ∷
-    cycles (actIn 0 1 xs) ∷
-    cycles (actIn 0 2 xs) ∷
-    cycles (actIn 0 3 xs) ∷
-    cycles (actIn 1 0 xs) ∷
-    cycles (actIn 1 1 xs) ∷
-    cycles (actIn 1 2 xs) ∷
-    cycles (actIn 1 3 xs) ∷
+    stamp (actIn 0 0 xs) ∷
+    stamp (actIn 0 1 xs) ∷
+    stamp (actIn 0 2 xs) ∷
+    stamp (actIn 0 3 xs) ∷
+    stamp (actIn 1 0 xs) ∷
+    stamp (actIn 1 1 xs) ∷
+    stamp (actIn 1 2 xs) ∷
+    stamp (actIn 1 3 xs) ∷
     []
 
 -- a command in its place, at a cycle that a stamp holds
@@ -54,24 +54,24 @@ abbrev pub Undoes : Entry → List Stamped → Type 0
 Undoes e [] = Unit {0}
 Undoes e (x ∷ xs) =
     (e .slot ≡ slotOf (x .command))
-    × (e .earlier ≡ cycles (stampIn (slotOf (x .command)) xs))
-    × (T (sameKind (x .command .kind) Act) → e .«pushed_out» ≡ cycles (actIn (x .command .rank) 3 xs))
-    × (e .latest ≡ cycles (cycleAfter xs))
+    × (e .earlier ≡ stamp (stampIn (slotOf (x .command)) xs))
+    × (T (sameKind (x .command .kind) Act) → e .«pushed_out» ≡ stamp (actIn (x .command .rank) 3 xs))
+    × (e .latest ≡ stamp (cycleAfter xs))
 
 -- the place in the ring of the entry for the i-th latest survivor
-abbrev pub ringAt : Session → ℕ → ℕ
-ringAt s i = (s .position + 63 - i) % 64
+abbrev pub ringAt : Progress → ℕ → ℕ
+ringAt p i = (p .position + (maxDepth - 1) - i) % maxDepth
 
 pub record Stands (s : Session) (xs : List Stamped) (d : ℕ) : Type 0 where
   pub rising : Rising xs
-  pub last-size : length (s .last) ≡ 224
-  pub last : (i : ℕ) → i < 224 → stampAt (s .last) i ≡ cycles (stampIn i xs)
-  pub activates : s .activates ≡ actsIn xs
-  pub latest : s .latest ≡ cycles (cycleAfter xs)
-  pub survivors : s .survivors ≡ length xs
-  pub depth : s .depth ≡ d
+  pub last-size : length (s .last) ≡ slots
+  pub last : (i : ℕ) → i < slots → stampAt (s .last) i ≡ stamp (stampIn i xs)
+  pub activates : s .progress .activates ≡ actsIn xs
+  pub latest : s .progress .latest ≡ stamp (cycleAfter xs)
+  pub survivors : s .progress .survivors ≡ length xs
+  pub depth : s .progress .depth ≡ d
   pub shallow : d ≤ length xs
-  pub deepest : d ≤ 64
-  pub position : s .position < 64
-  pub entries-size : length (s .entries) ≡ 64
-  pub entries : (i : ℕ) → i < d → Undoes (getD (s .entries) (ringAt s i) noEntry) (drop i xs)
+  pub deepest : d ≤ maxDepth
+  pub position : s .progress .position < maxDepth
+  pub entries-size : length (s .entries) ≡ maxDepth
+  pub entries : (i : ℕ) → i < d → Undoes (getD (s .entries) (ringAt (s .progress) i) noEntry) (drop i xs)

@@ -1,5 +1,4 @@
 // One session in compact arrays.
 pub mod changes;
-pub mod scan;
 pub mod stamps;
 pub mod state;

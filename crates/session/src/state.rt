@@ -1,34 +1,47 @@
-// The state: what a session's answers go by, in arrays of a fixed size.
+// The state: what a session's answers go by, in arrays of a fixed size. The small numbers stand in two structs, which the steps below
+// the calls take by value; the two long arrays stand beside them, and who takes a command or takes one back stores into them in place.
 ghost use mathlib.Core.Path.{_≡_};
 ghost use Rattle.session.specs.State.{freshState};
+use crate::stamps::Stamp;
 use timing::clocks::ControllerCycles;
 use timing::rules::Opening;
+
+// A stamp for each rank, kind and bank.
+pub const SLOTS: usize = 224;
+
+pub const RANK_SLOTS: usize = 112;
+
+// How many commands can be taken back.
+pub const MAX_DEPTH: usize = 64;
 
 // What a take-back must put back: the slot of the command taken back, the stamp that stood there before it, the activate that it
 // pushed out of the four, and the stamp of the survivor before it.
 #[repr(C)]
 pub struct Entry {
     pub slot: u64,
-    pub earlier: ControllerCycles,
-    pub pushed_out: ControllerCycles,
-    pub latest: ControllerCycles,
+    pub earlier: Stamp,
+    pub pushed_out: Stamp,
+    pub latest: Stamp,
 }
 
+// How far the session has come: what each record changes.
 #[repr(C)]
-pub struct Session {
-    // The last stamp of each rank, kind and bank.
-    pub last: [ControllerCycles; 224],
+pub struct Progress {
     // The four latest activates of each rank, newest first.
-    pub activates: [ControllerCycles; 8],
-    // The ring of take-back entries; `position` is where the next goes.
-    pub entries: [Entry; 64],
-    pub position: u64,
+    pub activates: [Stamp; 8],
     // The stamp of the last survivor.
-    pub latest: ControllerCycles,
+    pub latest: Stamp,
+    // The place of the next take-back entry in the ring.
+    pub position: u64,
     pub survivors: u64,
     pub depth: u64,
     // The records in the journal.
     pub records: u64,
+}
+
+// What the client gave: only an opening changes it.
+#[repr(C)]
+pub struct Terms {
     // The twenty gaps in controller cycles, rounded once at the opening.
     pub rounded: [ControllerCycles; 20],
     pub opening: Opening,
@@ -38,33 +51,47 @@ pub struct Session {
     pub is_open: u8,
 }
 
+#[repr(C)]
+pub struct Session {
+    // The last stamp of each rank, kind and bank.
+    pub last: [Stamp; SLOTS],
+    // The ring of take-back entries.
+    pub entries: [Entry; MAX_DEPTH],
+    pub progress: Progress,
+    pub terms: Terms,
+}
+
 impl Session {
     pub fn fresh() -> Session
         ensures { λ r. ⌜ r ≡ freshState ⌝ }
     {
         Session {
-            last: [ControllerCycles(0); 224],
-            activates: [ControllerCycles(0); 8],
+            last: [Stamp(0); SLOTS],
             entries: [Entry {
                 slot: 0,
-                earlier: ControllerCycles(0),
-                pushed_out: ControllerCycles(0),
-                latest: ControllerCycles(0),
-            }; 64],
-            position: 0,
-            latest: ControllerCycles(0),
-            survivors: 0,
-            depth: 0,
-            records: 0,
-            rounded: [ControllerCycles(0); 20],
-            opening: Opening {
-                ratio: 0,
-                ranks: 0,
-                mode: 0,
-                client: 0,
+                earlier: Stamp(0),
+                pushed_out: Stamp(0),
+                latest: Stamp(0),
+            }; MAX_DEPTH],
+            progress: Progress {
+                activates: [Stamp(0); 8],
+                latest: Stamp(0),
+                position: 0,
+                survivors: 0,
+                depth: 0,
+                records: 0,
             },
-            number: 0,
-            is_open: 0,
+            terms: Terms {
+                rounded: [ControllerCycles(0); 20],
+                opening: Opening {
+                    ratio: 0,
+                    ranks: 0,
+                    mode: 0,
+                    client: 0,
+                },
+                number: 0,
+                is_open: 0,
+            },
         }
     }
 }

@@ -67,13 +67,13 @@ pub data Move : Type 0 where
   asks-stretch : Move
 
 -- what it is answered with: a number with a cycle and a gap; a status; the stretch's place and its bytes
-pub data Answer : Type 0 where
-  replied : Reply → Answer
-  stated : Status → Answer
-  handed : Part → List ℕ → Answer
+pub data Heard : Type 0 where
+  replied : Reply → Heard
+  stated : Status → Heard
+  handed : Part → List ℕ → Heard
 
 -- a move's outcome. A question takes the state and the bytes and hands back neither, so both stay
-pub data Does : Move → Session → List ℕ → Answer → Session → List ℕ → Type 0 where
+pub data Does : Move → Session → List ℕ → Heard → Session → List ℕ → Type 0 where
   by-call : {c : Call} {s next : Session} {lent bytes : List ℕ} {reply : Reply} → Outcome c s lent reply next bytes → Does (calls c) s lent (replied reply) next bytes
   by-earliest : {kind rank bank : ℕ} {s : Session} {lent : List ℕ} {reply : Reply} → TellsEarliest s kind rank bank reply
       → Does (asks-earliest kind rank bank) s lent (replied reply) s lent

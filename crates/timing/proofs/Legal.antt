@@ -13,8 +13,8 @@ use Rattle.timing.specs.declared.kinds.CommandKind.the-variants.{Act}
 use Rattle.timing.specs.declared.rules.Opening.{Opening}
 use Rattle.timing.specs.declared.rules.Command.{Command}
 use Rattle.timing.specs.Kinds.{sameKind}
-use Rattle.timing.specs.Rules.{Rule, rules, classOf, holds, binds, matching}
-use Rattle.timing.specs.Earliest.{Stamped, Standing, Ask, ByPair, ByFour, NthAct, newest, behind-act, behind-other, AsksFor, LaterThanLast, Legal, NamedGap, tFAW, reach, cycleAfter, floor, isAct, asked, pairAsks, acts, fourthAct, fourAsks, asks, later, latest, earliest}
+use Rattle.timing.specs.Rules.{Rule, rules, classOf, matches, binds, matching}
+use Rattle.timing.specs.Earliest.{Stamped, Standing, Ask, ByPair, ByFour, NthAct, newest, behind-act, behind-other, AsksFor, LaterThanLast, Legal, NamedGap, tFAW, reach, cycleAfter, floor, isAct, askBy, pairAsks, acts, fourthAct, fourAsks, asks, later, latest, earliest}
 use Rattle.timing.proofs.AskLaws.{_≼_, ask-path, latest-above-first, latest-above, latest-one}
 use Rattle.timing.proofs.TableLaws.{numbers-within, all-numbered}
 use Rattle.timing.proofs.Truth.{and-left, and-right, both, true-is, false-is, is-true}
@@ -32,33 +32,33 @@ map-out f (y ∷ ys) {b} m =
 
 -- a number matches exactly if a rule of the list with that number holds
 module _ (o : Opening) (class : ℕ) (a b : CommandKind) where
-  pub matching-in : (rs : List Rule) {r : Rule} → List·Memᴰ r rs → T (holds o class a b r) → List·Memᴰ (r .number) (matching o class a b rs)
+  pub matching-in : (rs : List Rule) {r : Rule} → List·Memᴰ r rs → T (matches o class a b r) → List·Memᴰ (r .number) (matching o class a b rs)
   unfolding matching
   matching-in [] m h = absurd (List·Memᴰ·not-nil m)
   matching-in (q ∷ qs) {r} m h =
       ⊎-elim
       (λ (e : r ≡ q). subst (λ (t : Bool). List·Memᴰ (r .number) (cond t (q .number ∷ matching o class a b qs) (matching o class a b qs)))
-      (sym (true-is (holds o class a b q) (subst (λ (x : Rule). T (holds o class a b x)) e h))) (List·Memᴰ·head (ap (λ (x : Rule). x .number) e)))
-      (λ (m′ : List·Memᴰ r qs). keep (holds o class a b q) (matching-in qs m′ h)) (List·Memᴰ·cases-cons m)
+      (sym (true-is (matches o class a b q) (subst (λ (x : Rule). T (matches o class a b x)) e h))) (List·Memᴰ·head (ap (λ (x : Rule). x .number) e)))
+      (λ (m′ : List·Memᴰ r qs). keep (matches o class a b q) (matching-in qs m′ h)) (List·Memᴰ·cases-cons m)
     where
       keep : (t : Bool) → List·Memᴰ (r .number) (matching o class a b qs) → List·Memᴰ (r .number) (cond t (q .number ∷ matching o class a b qs) (matching o class a b qs))
       keep true m = List·Memᴰ·tail m
       keep false m = m
 
   abbrev pub Matched : List Rule → ℕ → Type 0
-  Matched rs n = (r : Rule) × List·Memᴰ r rs × T (holds o class a b r) × (r .number ≡ n)
+  Matched rs n = (r : Rule) × List·Memᴰ r rs × T (matches o class a b r) × (r .number ≡ n)
 
   pub matching-out : (rs : List Rule) {n : ℕ} → List·Memᴰ n (matching o class a b rs) → Matched rs n
   unfolding matching
   matching-out [] m = absurd (List·Memᴰ·not-nil m)
-  matching-out (q ∷ qs) {n} m = go (holds o class a b q) refl m (λ (m′ : List·Memᴰ n (matching o class a b qs)). matching-out qs m′)
+  matching-out (q ∷ qs) {n} m = go (matches o class a b q) refl m (λ (m′ : List·Memᴰ n (matching o class a b qs)). matching-out qs m′)
     where
       down : Matched qs n → Matched (q ∷ qs) n
       down w = (w .0, List·Memᴰ·tail (w .1), w .2, w .3)
 
-      go : (t : Bool) → holds o class a b q ≡ t → List·Memᴰ n (cond t (q .number ∷ matching o class a b qs) (matching o class a b qs))
+      go : (t : Bool) → matches o class a b q ≡ t → List·Memᴰ n (cond t (q .number ∷ matching o class a b qs) (matching o class a b qs))
           → (List·Memᴰ n (matching o class a b qs) → Matched qs n) → Matched (q ∷ qs) n
-      go true h m below = ⊎-elim (λ e. (q, List·Memᴰ·head refl, is-true (holds o class a b q) h, sym e)) (λ m′. down (below m′)) (List·Memᴰ·cases-cons m)
+      go true h m below = ⊎-elim (λ e. (q, List·Memᴰ·head refl, is-true (matches o class a b q) h, sym e)) (λ m′. down (below m′)) (List·Memᴰ·cases-cons m)
       go false h m below = down (below m)
 
 -- the asks of the pair rules are those of the survivors and the rules that bind them
@@ -67,21 +67,21 @@ module _ (st : Standing) (c : Command) where
   here x =
       let o = st .settings .opening in
       cond (eqb (x .command .rank) (c .rank))
-      (map (asked st x) (matching o (classOf o (x .command) c) (x .command .kind) (c .kind) rules))
+      (map (askBy st x) (matching o (classOf o (x .command) c) (x .command .kind) (c .kind) rules))
       []
 
   Bound : Stamped → Ask → Type 0
   Bound x a = (r : Rule) × List·Memᴰ r rules × T (binds (st .settings .opening) r (x .command) c) × (r .number ≡ a .gap) × (reach st x (a .gap) ≡ a .cycle)
 
-  here-in : (x : Stamped) (r : Rule) → List·Memᴰ r rules → T (binds (st .settings .opening) r (x .command) c) → List·Memᴰ (asked st x (r .number)) (here x)
+  here-in : (x : Stamped) (r : Rule) → List·Memᴰ r rules → T (binds (st .settings .opening) r (x .command) c) → List·Memᴰ (askBy st x (r .number)) (here x)
   here-in x r m h =
       let o = st .settings .opening in
       let same = eqb (x .command .rank) (c .rank) in
       let class = classOf o (x .command) c in
-      let rest = holds o class (x .command .kind) (c .kind) r in
-      subst (λ (t : Bool). List·Memᴰ (asked st x (r .number)) (cond t (map (asked st x) (matching o class (x .command .kind) (c .kind) rules)) []))
+      let rest = matches o class (x .command .kind) (c .kind) r in
+      subst (λ (t : Bool). List·Memᴰ (askBy st x (r .number)) (cond t (map (askBy st x) (matching o class (x .command .kind) (c .kind) rules)) []))
       (sym (true-is same (and-left same rest h)))
-      (map-in (asked st x) (matching o class (x .command .kind) (c .kind) rules) (matching-in o class (x .command .kind) (c .kind) rules m (and-right same rest h)))
+      (map-in (askBy st x) (matching o class (x .command .kind) (c .kind) rules) (matching-in o class (x .command .kind) (c .kind) rules m (and-right same rest h)))
 
   here-out : (x : Stamped) {a : Ask} → List·Memᴰ a (here x) → Bound x a
   unfolding Bound
@@ -96,23 +96,23 @@ module _ (st : Standing) (c : Command) where
       numbers : List ℕ
       numbers = matching o class (x .command .kind) (c .kind) rules
 
-      go : (t : Bool) → eqb (x .command .rank) (c .rank) ≡ t → List·Memᴰ a (cond t (map (asked st x) numbers) []) → Bound x a
+      go : (t : Bool) → eqb (x .command .rank) (c .rank) ≡ t → List·Memᴰ a (cond t (map (askBy st x) numbers) []) → Bound x a
       go true e m =
-          let w = map-out (asked st x) numbers m in
+          let w = map-out (askBy st x) numbers m in
           let r = matching-out o class (x .command .kind) (c .kind) rules (w .1) in
           let eg : a .gap ≡ w .0 = ap (λ (k : Ask). k .gap) (w .2) in
           let ec : a .cycle ≡ reach st x (w .0) = ap (λ (k : Ask). k .cycle) (w .2) in
           let same = eqb (x .command .rank) (c .rank) in
-          (r .0, r .1, both same (holds o class (x .command .kind) (c .kind) (r .0)) (is-true same e) (r .2), r .3 ∙ sym eg, ap (reach st x) eg ∙ sym ec)
+          (r .0, r .1, both same (matches o class (x .command .kind) (c .kind) (r .0)) (is-true same e) (r .2), r .3 ∙ sym eg, ap (reach st x) eg ∙ sym ec)
       go false e m = absurd (List·Memᴰ·not-nil m)
 
   pairs-in : (xs : List Stamped) {x : Stamped} (r : Rule) → List·Memᴰ x xs → List·Memᴰ r rules → T (binds (st .settings .opening) r (x .command) c)
-      → List·Memᴰ (asked st x (r .number)) (pairAsks st c xs)
+      → List·Memᴰ (askBy st x (r .number)) (pairAsks st c xs)
   unfolding pairAsks
   pairs-in [] r i m h = absurd (List·Memᴰ·not-nil i)
   pairs-in (y ∷ ys) {x} r i m h =
       ⊎-elim
-      (λ (e : x ≡ y). subst (λ (z : Stamped). List·Memᴰ (asked st z (r .number)) (pairAsks st c (y ∷ ys))) (sym e)
+      (λ (e : x ≡ y). subst (λ (z : Stamped). List·Memᴰ (askBy st z (r .number)) (pairAsks st c (y ∷ ys))) (sym e)
       (Memᴰ·append-left (pairAsks st c ys) (here-in y r m (subst (λ (z : Stamped). T (binds (st .settings .opening) r (z .command) c)) e h))))
       (λ (i′ : List·Memᴰ x ys). Memᴰ·append-right (here y) (pairs-in ys r i′ m h)) (List·Memᴰ·cases-cons i)
 
@@ -153,28 +153,28 @@ module _ (st : Standing) (c : Command) where
   unfolding asks fourAsks
   asks-in {n} {u} (inl p) =
       Memᴰ·append-left (fourAsks st c)
-      (Memᴰ·cast (ask-path (record { cycle = u; gap = n }) (asked st (p .survivor) (p .rule .number)) (sym (p .asks) ∙ ap (reach st (p .survivor)) (sym (p .number))) (sym (p .number)))
+      (Memᴰ·cast (ask-path (record { cycle = u; gap = n }) (askBy st (p .survivor) (p .rule .number)) (sym (p .asks) ∙ ap (reach st (p .survivor)) (sym (p .number))) (sym (p .number)))
       (pairs-in st c (st .survivors) (p .rule) (p .survives) (p .listed) (p .bound)))
   asks-in {n} {u} (inr p) =
       let w = nth-in (c .rank) 4 (st .survivors) (p .fourth) in
       let three : w .0 ≡ 3 = omega (arith, w .1) in
       Memᴰ·append-right (pairAsks st c (st .survivors))
-      (Memᴰ·cast (ask-path (record { cycle = u; gap = n }) (asked st (p .survivor) tFAW) (sym (p .asks) ∙ ap (reach st (p .survivor)) (sym (p .number))) (sym (p .number)))
+      (Memᴰ·cast (ask-path (record { cycle = u; gap = n }) (askBy st (p .survivor) tFAW) (sym (p .asks) ∙ ap (reach st (p .survivor)) (sym (p .number))) (sym (p .number)))
       (four-in (p .survivor) (p .activates) (subst (λ (m : ℕ). List·Memᴰ (p .survivor) (take 1 (drop m (acts (c .rank) (st .survivors))))) three (w .2))))
     where
-      four-in : (x : Stamped) → T (sameKind (c .kind) Act) → List·Memᴰ x (fourthAct (c .rank) (st .survivors)) → List·Memᴰ (asked st x tFAW) (fourAsks st c)
+      four-in : (x : Stamped) → T (sameKind (c .kind) Act) → List·Memᴰ x (fourthAct (c .rank) (st .survivors)) → List·Memᴰ (askBy st x tFAW) (fourAsks st c)
       four-in x h m =
-          subst (λ (t : Bool). List·Memᴰ (asked st x tFAW) (cond t (map (λ y. asked st y tFAW) (fourthAct (c .rank) (st .survivors))) []))
-          (sym (true-is (sameKind (c .kind) Act) h)) (map-in (λ y. asked st y tFAW) (fourthAct (c .rank) (st .survivors)) m)
+          subst (λ (t : Bool). List·Memᴰ (askBy st x tFAW) (cond t (map (λ y. askBy st y tFAW) (fourthAct (c .rank) (st .survivors))) []))
+          (sym (true-is (sameKind (c .kind) Act) h)) (map-in (λ y. askBy st y tFAW) (fourthAct (c .rank) (st .survivors)) m)
 
   four-out : {a : Ask} → List·Memᴰ a (fourAsks st c) → ByFour st c (a .gap) (a .cycle)
   unfolding fourAsks
   four-out {a} m = go (sameKind (c .kind) Act) refl m
     where
-      go : (t : Bool) → sameKind (c .kind) Act ≡ t → List·Memᴰ a (cond t (map (λ x. asked st x tFAW) (fourthAct (c .rank) (st .survivors))) [])
+      go : (t : Bool) → sameKind (c .kind) Act ≡ t → List·Memᴰ a (cond t (map (λ x. askBy st x tFAW) (fourthAct (c .rank) (st .survivors))) [])
           → ByFour st c (a .gap) (a .cycle)
       go true e m =
-          let w = map-out (λ x. asked st x tFAW) (fourthAct (c .rank) (st .survivors)) m in
+          let w = map-out (λ x. askBy st x tFAW) (fourthAct (c .rank) (st .survivors)) m in
           let eg : a .gap ≡ tFAW = ap (λ (k : Ask). k .gap) (w .2) in
           let ec : a .cycle ≡ reach st (w .0) tFAW = ap (λ (k : Ask). k .cycle) (w .2) in
           record {

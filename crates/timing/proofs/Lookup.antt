@@ -8,7 +8,7 @@ use lib.Dec.{eqb, eqb→eq, lit<}
 use borrow.Author.Tests.{eq-eqb}
 use Rattle.timing.specs.declared.rules.Opening.{Opening}
 use Rattle.timing.specs.declared.rules.Command.{Command}
-use Rattle.timing.specs.Rules.{rules, groupOf, nearness, classOf, holds, matching, tableGap}
+use Rattle.timing.specs.Rules.{rules, groupOf, nearness, classOf, matches, matching, tableGap}
 use Rattle.timing.specs.Earliest.{Stamped, Standing, ByPair, AsksFor, reach}
 use Rattle.timing.proofs.TableLaws.{only, one-rule, class-low}
 use Rattle.timing.proofs.Truth.{and-left, and-right, both, is-true}
@@ -48,7 +48,7 @@ module _ (st : Standing) (c : Command) (known : st .settings .opening .mode < 2)
       let x = p .survivor in
       let o = st .settings .opening in
       let same = eqb (x .command .rank) (c .rank) in
-      let rest = holds o (class x) (x .command .kind) (c .kind) (p .rule) in
+      let rest = matches o (class x) (x .command .kind) (c .kind) (p .rule) in
       let found = matching-in o (class x) (x .command .kind) (c .kind) rules (p .listed) (and-right same rest (p .bound)) in (
         eqb→eq (x .command .rank) (c .rank) (and-left same rest (p .bound)),
         sym (p .number) ∙ in-only (pairGap x) (subst (λ (ns : List ℕ). List·Memᴰ (p .rule .number) ns) (alone x) found),
@@ -65,7 +65,7 @@ module _ (st : Standing) (c : Command) (known : st .settings .opening .mode < 2)
         survives = i;
         rule = w .0;
         listed = w .1;
-        bound = both same (holds o (class x) (x .command .kind) (c .kind) (w .0)) (is-true same (eq-eqb (x .command .rank) (c .rank) e)) (w .2);
+        bound = both same (matches o (class x) (x .command .kind) (c .kind) (w .0)) (is-true same (eq-eqb (x .command .rank) (c .rank) e)) (w .2);
         number = w .3;
         asks = refl;
       })

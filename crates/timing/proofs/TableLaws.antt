@@ -12,7 +12,7 @@ use borrow.Author.Tests.{lt-ltb}
 use Rattle.timing.specs.declared.kinds.CommandKind.{CommandKind}
 use Rattle.timing.specs.declared.rules.Opening.{Opening}
 use Rattle.timing.specs.Kinds.{codeOf, allBanks}
-use Rattle.timing.specs.Rules.{classFor, rules, matching, kindAt, ruleGap, firstOr0, tableGap, holds, Rule, covers}
+use Rattle.timing.specs.Rules.{classFor, rules, matching, kindAt, ruleGap, firstOr0, tableGap, matches, Rule, covers}
 use Rattle.timing.specs.Table.{gapTable, matchingAt, inMode, tablePlace, alone, alonePlaces, agrees}
 use Rattle.timing.proofs.Truth.{and-left, and-right}
 use Rattle.timing.proofs.KindLaws.{code-low, code-high, kind-at-code}
@@ -66,7 +66,7 @@ code-place k = omega (arith, code-low k, code-high k)
 mode-only : (o : Opening) (class : ℕ) (a b : CommandKind) (rs : List Rule) → matching (inMode (o .mode)) class a b rs ≡ matching o class a b rs
 unfolding matching
 mode-only o class a b [] = refl
-mode-only o class a b (r ∷ rs) = ap (λ (ns : List ℕ). cond (holds o class a b r) (r .number ∷ ns) ns) (mode-only o class a b rs)
+mode-only o class a b (r ∷ rs) = ap (λ (ns : List ℕ). cond (matches o class a b r) (r .number ∷ ns) ns) (mode-only o class a b rs)
 
 decoded : (p m class : ℕ) (a b : CommandKind) → 0 + p ≡ p → p / 147 ≡ m → p / 49 % 3 ≡ class → kindAt (p / 7 % 7) ≡ a → kindAt (p % 7) ≡ b
     → matchingAt (0 + p) ≡ matching (inMode m) class a b rules
@@ -137,7 +137,7 @@ module _ (o : Opening) (class : ℕ) (a b : CommandKind) where
   first-low : (rs : List Rule) → T (numbered rs) → firstOr0 (matching o class a b rs) < 20
   unfolding matching
   first-low [] t = lit< tt
-  first-low (r ∷ rs) t = go (holds o class a b r) (first-low rs (numbered-tail r rs t))
+  first-low (r ∷ rs) t = go (matches o class a b r) (first-low rs (numbered-tail r rs t))
     where
       go : (y : Bool) → firstOr0 (matching o class a b rs) < 20 → firstOr0 (cond y (r .number ∷ matching o class a b rs) (matching o class a b rs)) < 20
       go true below = numbered-head r rs t .1

@@ -93,15 +93,15 @@ pub record Ask : Type 0 where
   pub cycle : ℕ
   pub gap : ℕ
 
-abbrev pub asked : Standing → Stamped → ℕ → Ask
-asked st x n = record { cycle = reach st x n; gap = n }
+abbrev pub askBy : Standing → Stamped → ℕ → Ask
+askBy st x n = record { cycle = reach st x n; gap = n }
 
 unfoldable pub pairAsks : Standing → Command → List Stamped → List Ask
 pairAsks st c [] = []
 pairAsks st c (x ∷ xs) =
     let o = st .settings .opening in
     cond (eqb (x .command .rank) (c .rank))
-    (map (asked st x) (matching o (classOf o (x .command) c) (x .command .kind) (c .kind) rules))
+    (map (askBy st x) (matching o (classOf o (x .command) c) (x .command .kind) (c .kind) rules))
     []
     ++ pairAsks st c xs
 
@@ -114,7 +114,7 @@ abbrev pub fourthAct : ℕ → List Stamped → List Stamped
 fourthAct rank xs = take 1 (drop 3 (acts rank xs))
 
 unfoldable pub fourAsks : Standing → Command → List Ask
-fourAsks st c = cond (sameKind (c .kind) Act) (map (λ x. asked st x tFAW) (fourthAct (c .rank) (st .survivors))) []
+fourAsks st c = cond (sameKind (c .kind) Act) (map (λ x. askBy st x tFAW) (fourthAct (c .rank) (st .survivors))) []
 
 unfoldable pub asks : Standing → Command → List Ask
 asks st c = pairAsks st c (st .survivors) ++ fourAsks st c

@@ -81,17 +81,17 @@ covers class a b [] = false
 covers class a b (p ∷ ps) = sameKind a (p .first) && sameKind b (p .second) && names (p .classes) class || covers class a b ps
 
 -- the rule holds in the opening's mode, for a class and two kinds
-abbrev pub holds : Opening → ℕ → CommandKind → CommandKind → Rule → Bool
-holds o class a b r = names (r .modes) (o .mode) && covers class a b (r .pairs)
+abbrev pub matches : Opening → ℕ → CommandKind → CommandKind → Rule → Bool
+matches o class a b r = names (r .modes) (o .mode) && covers class a b (r .pairs)
 
 -- a rule binds two commands of one rank
 abbrev pub binds : Opening → Rule → Command → Command → Bool
-binds o r x y = eqb (x .rank) (y .rank) && holds o (classOf o x y) (x .kind) (y .kind) r
+binds o r x y = eqb (x .rank) (y .rank) && matches o (classOf o x y) (x .kind) (y .kind) r
 
 -- the numbers of the rules of a list that hold
 unfoldable pub matching : Opening → ℕ → CommandKind → CommandKind → List Rule → List ℕ
 matching o class a b [] = []
-matching o class a b (r ∷ rs) = cond (holds o class a b r) (r .number ∷ matching o class a b rs) (matching o class a b rs)
+matching o class a b (r ∷ rs) = cond (matches o class a b r) (r .number ∷ matching o class a b rs) (matching o class a b rs)
 
 abbrev pub firstOr0 : List ℕ → ℕ
 firstOr0 [] = 0

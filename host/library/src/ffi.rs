@@ -20,22 +20,36 @@ pub struct Opening {
     pub client: u32,
 }
 
+/// How far the session has come.
+#[repr(C)]
+#[derive(Clone, Copy, Debug, Default, PartialEq, Eq)]
+pub struct Progress {
+    pub activates: [u64; 8],
+    pub latest: u64,
+    pub position: u64,
+    pub survivors: u64,
+    pub depth: u64,
+    pub records: u64,
+}
+
+/// What the client gave.
+#[repr(C)]
+#[derive(Clone, Copy, Debug, Default, PartialEq, Eq)]
+pub struct Terms {
+    pub rounded: [u64; 20],
+    pub opening: Opening,
+    pub number: u32,
+    pub is_open: u8,
+}
+
 /// The state.
 #[repr(C)]
 #[derive(Clone, Copy, Debug, PartialEq, Eq)]
 pub struct Session {
     pub last: [u64; 224],
-    pub activates: [u64; 8],
     pub entries: [Entry; 64],
-    pub position: u64,
-    pub latest: u64,
-    pub survivors: u64,
-    pub depth: u64,
-    pub records: u64,
-    pub rounded: [u64; 20],
-    pub opening: Opening,
-    pub number: u32,
-    pub is_open: u8,
+    pub progress: Progress,
+    pub terms: Terms,
 }
 
 #[repr(C)]
@@ -111,9 +125,9 @@ pub struct Listed {
 }
 
 extern "C" {
-    #[link_name = "rossinhiu_fresh_1"]
+    #[link_name = "rossinhiu_fresh_2"]
     pub fn rossinhiu_fresh() -> Session;
-    #[link_name = "rossinhiu_open_1"]
+    #[link_name = "rossinhiu_open_2"]
     pub fn rossinhiu_open(
         session: Session,
         journal: *mut u8,
@@ -124,7 +138,7 @@ extern "C" {
         client: u32,
         gaps: Gaps,
     ) -> Opened;
-    #[link_name = "rossinhiu_offer_1"]
+    #[link_name = "rossinhiu_offer_2"]
     pub fn rossinhiu_offer(
         session: Session,
         journal: *mut u8,
@@ -134,17 +148,17 @@ extern "C" {
         bank: u64,
         cycle: u64,
     ) -> Offered;
-    #[link_name = "rossinhiu_earliest_1"]
+    #[link_name = "rossinhiu_earliest_2"]
     pub fn rossinhiu_earliest(session: Session, kind: u64, rank: u64, bank: u64) -> Numbers;
-    #[link_name = "rossinhiu_take_back_1"]
+    #[link_name = "rossinhiu_take_back_2"]
     pub fn rossinhiu_take_back(session: Session, journal: *mut u8, size: usize) -> TakenBack;
-    #[link_name = "rossinhiu_status_1"]
+    #[link_name = "rossinhiu_status_2"]
     pub fn rossinhiu_status(session: Session) -> Status;
-    #[link_name = "rossinhiu_restore_1"]
+    #[link_name = "rossinhiu_restore_2"]
     pub fn rossinhiu_restore(journal: *const u8, size: usize) -> Restored;
-    #[link_name = "rossinhiu_stretch_1"]
+    #[link_name = "rossinhiu_stretch_2"]
     pub fn rossinhiu_stretch(session: Session, size: usize) -> Part;
-    #[link_name = "rossinhiu_list_part_1"]
+    #[link_name = "rossinhiu_list_part_2"]
     pub fn rossinhiu_list_part(
         session: Session,
         part: *const u8,

@@ -108,7 +108,7 @@ impl Pair {
         } else {
             kind
         };
-        let ranks = u64::from(self.session.opening.ranks.max(1));
+        let ranks = u64::from(self.session.terms.opening.ranks.max(1));
         let rank = self.rng.below(ranks);
         let rank = if wild {
             self.rng.pick(&[ranks, 2, 256, u64::MAX, rank])
@@ -388,7 +388,7 @@ fn the_state_field_by_field() {
         }
         assert!(lent == room);
     }
-    let used = session.records as usize * RECORD;
+    let used = session.progress.records as usize * RECORD;
     assert_eq!(checker::restore(&lent[..used]).0, state);
     // Every slot that a command can have was used: 7 kinds of 2 ranks, with 16 banks or 1.
     assert_eq!(
@@ -429,21 +429,21 @@ fn any_session(rng: &mut Rng) -> Session {
     let mut session = checker::fresh();
     let mut any = || rng.draw() >> rng.below(64);
     session.last.iter_mut().for_each(|x| *x = any());
-    session.activates.iter_mut().for_each(|x| *x = any());
+    session.progress.activates.iter_mut().for_each(|x| *x = any());
     for entry in &mut session.entries {
         (entry.slot, entry.earlier) = (any(), any());
         (entry.pushed_out, entry.latest) = (any(), any());
     }
-    session.rounded.iter_mut().for_each(|x| *x = any());
-    (session.position, session.latest) = (any(), any());
-    (session.survivors, session.depth) = (any(), any());
-    session.records = any() % 6;
-    session.opening.ratio = any() as u8;
-    session.opening.ranks = any() as u8;
-    session.opening.mode = any() as u8;
-    session.opening.client = any() as u32;
-    session.number = any() as u32;
-    session.is_open = any() as u8;
+    session.terms.rounded.iter_mut().for_each(|x| *x = any());
+    (session.progress.position, session.progress.latest) = (any(), any());
+    (session.progress.survivors, session.progress.depth) = (any(), any());
+    session.progress.records = any() % 6;
+    session.terms.opening.ratio = any() as u8;
+    session.terms.opening.ranks = any() as u8;
+    session.terms.opening.mode = any() as u8;
+    session.terms.opening.client = any() as u32;
+    session.terms.number = any() as u32;
+    session.terms.is_open = any() as u8;
     session
 }
 
@@ -464,7 +464,7 @@ fn a_full_journal() {
     }
     let end = MOST_RECORDS * RECORD;
     let (mut session, number, _) = checker::restore(&bytes[..end]);
-    assert_eq!((number, session.records), (0, MOST_RECORDS as u64));
+    assert_eq!((number, session.progress.records), (0, MOST_RECORDS as u64));
     assert_eq!(session, state);
     // The journal is full, however much is lent.
     let came = checker::offer(&mut session, &mut bytes, 1, 0, 0, LAST_CYCLE);
@@ -483,7 +483,7 @@ fn on_64_kib_of_stack() {
     let calls: [Call; 9] = [
         |s, _, _| {
             *s = checker::fresh();
-            s.records
+            s.progress.records
         },
         |s, lent, _| checker::open(s, lent, (4, 2, 1), 7, &SETTINGS_A),
         |s, lent, _| checker::offer(s, lent, 1, 0, 3, 100).number,

@@ -417,7 +417,7 @@ fn another_layout_does_not_link() {
     let other = header.replace(&number, &format!("\"_{}\"", LAYOUT + 1));
     fs::write(folder.at("rossinhiu.h"), other).unwrap();
     let source = folder.at("fresh.c");
-    let text = "#include <rossinhiu.h>\nint main(void) { return rossinhiu_fresh().is_open; }\n";
+    let text = "#include <rossinhiu.h>\nint main(void) { return rossinhiu_fresh().terms.is_open; }\n";
     fs::write(&source, text).unwrap();
     let program = folder.at("fresh");
     let alike = compiled(gcc(), &top().join("include"), &source, &program);
@@ -432,8 +432,8 @@ fn another_layout_does_not_link() {
 
 /// The number of the layout, and what it stands for: where sizes or offsets change, the next number goes into the header, the exported
 /// names and their names in Rust, and both are written here anew.
-const LAYOUT: u64 = 1;
-const FINGERPRINT: u64 = 1_945_353_707_083_659_314;
+const LAYOUT: u64 = 2;
+const FINGERPRINT: u64 = 7_110_238_863_049_127_311;
 
 fn fingerprint(text: &str) -> u64 {
     let step = |hash: u64, byte: u8| (hash ^ u64::from(byte)).wrapping_mul(0x100_0000_01b3);
@@ -460,7 +460,9 @@ fn the_headers_layout() {
     layout!(all,
         "rossinhiu_entry" ffi::Entry { slot, earlier, pushed_out, latest }
         "rossinhiu_opening" ffi::Opening { ratio, ranks, mode, client }
-        "rossinhiu_session" ffi::Session { last, activates, entries, position, latest, survivors, depth, records, rounded, opening, number, is_open }
+        "rossinhiu_progress" ffi::Progress { activates, latest, position, survivors, depth, records }
+        "rossinhiu_terms" ffi::Terms { rounded, opening, number, is_open }
+        "rossinhiu_session" ffi::Session { last, entries, progress, terms }
         "rossinhiu_gaps" ffi::Gaps { gap }
         "rossinhiu_opened" ffi::Opened { session, number }
         "rossinhiu_offered" ffi::Offered { session, number, cycle, gap }

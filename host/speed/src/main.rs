@@ -78,7 +78,7 @@ fn journal(records: usize, once_in: usize) -> Vec<u8> {
             let settings = (RATIO, RANKS, MODE);
             let number = twin::open(&mut state, &mut bytes, settings, 7, &SETTINGS_A);
             assert_eq!(number, 0);
-        } else if n % once_in == once_in / 2 && state.depth > 0 {
+        } else if n % once_in == once_in / 2 && state.progress.depth > 0 {
             assert_eq!(twin::take_back(&mut state, &mut bytes), 0);
         } else {
             played(&mut state, &mut bytes, &mut dice);
@@ -197,7 +197,7 @@ fn offers(
 /// The four contenders of an offer, each over the same buffer.
 fn compare_offers(title: &str, start: &ffi::Session, before: &[Command], trace: &[Command]) {
     let accepted = before.is_empty();
-    let mut room = vec![0; (OFFERS + 2) * RECORD + start.records as usize * RECORD];
+    let mut room = vec![0; (OFFERS + 2) * RECORD + start.progress.records as usize * RECORD];
     let room = std::cell::RefCell::new(&mut room[..]);
     let expect = if accepted { 0 } else { 7 };
     let run = |offer: Offer| offers(start, &mut room.borrow_mut(), trace, offer, expect);
@@ -275,7 +275,7 @@ fn take_back_by_value(state: &mut ffi::Session, journal: &mut [u8]) -> u64 {
 
 fn compare_take_backs(start: &ffi::Session) {
     type TakeBack = fn(&mut ffi::Session, &mut [u8]) -> u64;
-    let room = std::cell::RefCell::new(vec![0; (start.records as usize + 64) * RECORD]);
+    let room = std::cell::RefCell::new(vec![0; (start.progress.records as usize + 64) * RECORD]);
     let run = |take_back: TakeBack| {
         let room = &mut room.borrow_mut()[..];
         let mut total = 0.0;
@@ -310,14 +310,14 @@ fn compare_restores(title: &str, rounds: usize, bytes: &[u8]) {
             contender(LIBRARY, || {
                 timed(records, || {
                     let (state, number, record) = checker::restore(black_box(bytes));
-                    assert_eq!((number, record, state.records as usize), (0, 0, records));
+                    assert_eq!((number, record, state.progress.records as usize), (0, 0, records));
                     black_box(&state);
                 })
             }),
             contender(TWIN, || {
                 timed(records, || {
                     let (state, number, record) = twin::restore(black_box(bytes));
-                    assert_eq!((number, record, state.records as usize), (0, 0, records));
+                    assert_eq!((number, record, state.progress.records as usize), (0, 0, records));
                     black_box(&state);
                 })
             }),

@@ -1,5 +1,5 @@
 -- `Session::push` meets its contract.
-use Rattle.session.specs.State.{pushedState}
+use Rattle.session.proofs.StoreLaws.{pushed-as}
 use borrow.Author.Needs.{needs}
 use Rattle.session.proofs.state.Session.push.Statement.{statement}
 use Rattle.session.proofs.state.Session.push.Tie as tie
@@ -7,8 +7,11 @@ use Rattle.session.proofs.state.Session.push.Tie as tie
 slot-of-requires : tie.Need-slot-of-requires
 slot-of-requires c κs = search needs
 
-store-stamp-requires : tie.Need-store-stamp-requires
-store-stamp-requires c κs = search needs
+of-requires : tie.Need-of-requires
+of-requires c κs = search needs
+
+place-next-requires : tie.Need-place-next-requires
+place-next-requires c κs = search needs
 
 mul-earlier : tie.Need-mul-earlier
 mul-earlier c = search needs
@@ -31,31 +34,25 @@ mul-stamp c = search needs
 element-set-from-stamp : tie.Need-element-set-from-stamp
 element-set-from-stamp c = search needs
 
-shifted-requires : tie.Need-shifted-requires
-shifted-requires c κs = search needs
-
-add-self : tie.Need-add-self
-add-self c = search needs
-
-one-more-requires : tie.Need-one-more-requires
-one-more-requires c κs = search needs
-
-deeper-requires : tie.Need-deeper-requires
-deeper-requires c κs = search needs
-
-one-more-requires-2 : tie.Need-one-more-requires-2
-one-more-requires-2 c κs = search needs
+pushed-requires : tie.Need-pushed-requires
+pushed-requires c κs = search needs
 
 returns : tie.Need-returns
-unfolding pushedState
-returns c = rw (c .one-more2 .ensures, c .before .deeper .ensures, c .before .before .one-more .ensures, c .before .before .before .shifted .ensures, c .before .before .before .before .entry-for .ensures, c .before .before .before .before .before .before .before .before .store-stamp .ensures, c .before .before .before .before .before .before .before .before .before .slot-of .ensures .0)
+returns c =
+    let next = c .pushed in
+    let made = c .before .entry-for in
+    let at = c .before .before .before .place-next in
+    let new = c .before .before .before .before .before .of in
+    let slot = c .before .before .before .before .before .before .slot-of in
+    pushed-as _ _ _ (slot .result) (at .result) (new .result) (made .result) (next .result) (slot .ensures .0) (new .ensures) (at .ensures .0) (made .ensures) (next .ensures)
 
 pub push-spec : {M : Type 1} → statement M
 push-spec =
     tie.close
     (tie.spec
     slot-of-requires
-    store-stamp-requires
+    of-requires
+    place-next-requires
     mul-earlier
     element-copy-out-earlier
     entry-for-requires
@@ -63,9 +60,5 @@ push-spec =
     element-set-from-entry
     mul-stamp
     element-set-from-stamp
-    shifted-requires
-    add-self
-    one-more-requires
-    deeper-requires
-    one-more-requires-2
+    pushed-requires
     returns)

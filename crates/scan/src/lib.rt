@@ -1,0 +1,2 @@
+// What the arrays ask for: the earliest cycle of a command, and the gap that asks for it.
+pub mod earliest;
