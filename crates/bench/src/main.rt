@@ -11,7 +11,6 @@ use gather::Output;
 use gather::flush;
 use gather::say_answer;
 use play::run;
-use play::started;
 use requests::forms::Request;
 use requests::words::same;
 use restoring::restore::restore;
@@ -43,23 +42,28 @@ fn is_said(answer: Answer) -> bool {
     !written.failed
 }
 
+// What a restore of the file's bytes gave is said, and where it was refused what a person can do; whether the trace can be played.
+fn is_sound(path: &[u8], bytes: &[u8], number: u64, record: u64) -> bool {
+    if !is_said(numbered(Request::Restore, 2, number, record, 0)) {
+        return false;
+    }
+    if number == 0 {
+        return true;
+    }
+    explain_bad(path, bytes, record);
+    false
+}
+
 // What the file's bytes restore, and then the trace, if it is a journal. The bytes read always lie within the journal.
 fn play_restored(path: &[u8], file: i32, journal: &mut [u8], bytes: usize) {
     if journal.len() < bytes {
         return;
     }
     let done = restore(&journal[..bytes]);
-    let number = done.number;
-    let at = done.record;
-    if !is_said(numbered(Request::Restore, 2, number, at, 0)) {
-        return;
+    if is_sound(path, &journal[..bytes], done.number, done.record) {
+        let session = done.session;
+        run(session, file, journal);
     }
-    if number != 0 {
-        explain_bad(path, &journal[..bytes], at);
-        return;
-    }
-    let session = done.session;
-    run(started(session, journal.len(), file), journal);
 }
 
 fn play_file(path: &[u8], journal: &mut [u8]) {
@@ -74,7 +78,7 @@ fn play_file(path: &[u8], journal: &mut [u8]) {
 }
 
 fn play_memory(journal: &mut [u8]) {
-    run(started(Session::fresh(), journal.len(), -1), journal);
+    run(Session::fresh(), -1, journal);
 }
 
 // The one argument.

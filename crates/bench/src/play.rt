@@ -1,6 +1,5 @@
 // A trace played line by line, and the answers written before each read that could wait.
-ghost use mathlib.Core.Path.{_≡_};
-ghost use Prim.Native.Nat.{_≤_};
+ghost use Prim.Native.Nat.{_≤_, _<_};
 ghost use lib.ListN.{length};
 use crate::file::is_kept;
 use crate::gather::Output;
@@ -9,148 +8,68 @@ use crate::gather::say_answer;
 use console::lines::keep;
 use console::lines::line_end;
 use console::respond::respond;
+use console::say::Answer;
 use input::Got;
 use input::read_some;
 use libc::STDIN_FILENO;
+use requests::requests::Asked;
 use requests::requests::parse_line;
 use session::state::Session;
 
-// `file` is the descriptor of the journal's file, below 0 where the journal is memory alone. `used` is how much of what was read is played,
-// `kept` how much of the line under way stands at the front. `ended`: the input ended, or a record or an answer could not be written.
-pub struct Console {
-    pub session: Session,
-    pub lent: usize,
-    pub output: Output,
-    pub file: i32,
-    pub used: usize,
-    pub kept: usize,
-    pub ended: bool,
+// Of what was read, which ends at `end`, the line at hand stands from `start` to `stop`, and what is not yet played begins at `next`.
+// `whole`: a newline ended the line. `ended`: nothing more is played.
+struct Turn {
+    start: usize,
+    stop: usize,
+    next: usize,
+    end: usize,
+    whole: bool,
+    ended: bool,
+    output: Output,
 }
 
-fn input_buffer() -> [u8; 69632]
-    ensures { λ r. ⌜ 69632 ≡ length r ⌝ }
+// An empty line asks nothing: where the next one begins, before the first and after each read.
+fn blank(end: usize, output: Output) -> Turn
+    ensures { λ r. ⌜ (r .start ≤ r .stop) × (r .stop ≤ end) ⌝ }
 {
-    [0u8; 69632]
+    Turn {
+        start: 0,
+        stop: 0,
+        next: 0,
+        end,
+        whole: true,
+        ended: false,
+        output,
+    }
 }
 
-fn number_buffer() -> [u64; 4096] {
-    [0u64; 4096]
-}
-
-// The console at its start: all of the journal is lent.
-pub fn started(session: Session, lent: usize, file: i32) -> Console {
-    Console {
-        session,
-        lent,
-        output: Output {
+fn started() -> Turn {
+    blank(
+        0,
+        Output {
             len: 0,
             failed: false,
         },
-        file,
-        used: 0,
-        kept: 0,
-        ended: false,
+    )
+}
+
+// The end: the input's, or that of a console whose records or answers can't be written.
+fn over(output: Output) -> Turn
+    ensures { λ r. ⌜ (r .start ≤ r .stop) × (r .stop ≤ 0) ⌝ }
+{
+    Turn {
+        start: 0,
+        stop: 0,
+        next: 0,
+        end: 0,
+        whole: true,
+        ended: true,
+        output,
     }
 }
 
-// The record of an accepted call is kept before its answer is gathered; where it can't be, the call has no answer.
-fn play_line(
-    mut console: Console,
-    journal: &mut [u8],
-    out: &mut [u8],
-    numbers: &mut [u64; 4096],
-    line: &[u8],
-    ended: bool,
-) -> Console {
-    let session = console.session;
-    let file = console.file;
-    let asking = parse_line(line, ended, 0 <= file, numbers);
-    let response = respond(session, journal, console.lent, asking, numbers);
-    let next = response.session;
-    let answer = response.answer;
-    let kept = is_kept(
-        file,
-        journal,
-        session.progress.records,
-        next.progress.records,
-    );
-    console.session = next;
-    console.lent = response.lent;
-    if !kept {
-        console.ended = true;
-        return console;
-    }
-    let before = console.output;
-    let output = say_answer(out, before, answer, journal);
-    console.output = output;
-    console.ended = output.failed;
-    console
-}
-
-// Every whole line of what was read.
-fn play_lines(
-    console: Console,
-    journal: &mut [u8],
-    out: &mut [u8],
-    numbers: &mut [u64; 4096],
-    bytes: &[u8],
-) -> Console {
-    let mut after = console;
-    let mut at = 0;
-    while at < bytes.len() {
-        let end = line_end(bytes, at);
-        if bytes.len() <= end || after.ended {
-            after.used = at;
-            return after;
-        }
-        let behind = end + 1;
-        let next = play_line(after, journal, out, numbers, &bytes[at..end], true);
-        after = next;
-        at = behind;
-    }
-    after.used = at;
-    after
-}
-
-fn flushed(mut console: Console, out: &[u8]) -> Console {
-    let before = console.output;
-    let output = flush(out, before);
-    console.output = output;
-    if output.failed {
-        console.ended = true;
-    }
-    console
-}
-
-// What stands behind the last newline was cut short: it is answered, and not played.
-fn last_turn(
-    mut console: Console,
-    journal: &mut [u8],
-    out: &mut [u8],
-    numbers: &mut [u64; 4096],
-    input: &[u8],
-) -> Console {
-    let kept = console.kept;
-    if input.len() < kept {
-        console.ended = true;
-        return console;
-    }
-    let played = play_line(console, journal, out, numbers, &input[..kept], false);
-    let mut after = flushed(played, out);
-    after.ended = true;
-    after
-}
-
-// A failed read is not the end: the line under way may go on otherwise than it stands here, and has no answer.
-fn broken_off(mut console: Console) -> Console {
-    os::fail(
-        b"bench: standard input can't be read, so it ends here. Send the trace again from the first line that has no answer",
-    );
-    console.ended = true;
-    console
-}
-
-// One read of what is there, behind the line under way: the end of what was read, or 0 if nothing came.
+// One read of what is there, behind the line under way: the end of what was read, or 0 if nothing came. A failed read is not the end: the
+// line under way may go on otherwise than it stands here, and has no answer.
 fn read_behind(input: &mut [u8], kept: usize) -> Got
     ensures { λ r. ⌜ r .count ≤ length (now (input .exit)) ⌝ }
 {
@@ -161,6 +80,12 @@ fn read_behind(input: &mut [u8], kept: usize) -> Got
         };
     }
     let got = read_some(STDIN_FILENO, &mut input[kept..]);
+    if got.failed {
+        os::fail(
+            b"bench: standard input can't be read, so it ends here. Send the trace again from the first line that has no answer",
+        );
+        return got;
+    }
     if got.count == 0 {
         return got;
     }
@@ -170,53 +95,129 @@ fn read_behind(input: &mut [u8], kept: usize) -> Got
     }
 }
 
-// The whole lines up to the end of what was read. All answers are written before the next read, which could wait.
-fn play_read(
-    console: Console,
-    journal: &mut [u8],
-    out: &mut [u8],
-    numbers: &mut [u64; 4096],
-    input: &mut [u8],
-    end: usize,
-) -> Console
-    requires { ⌜ end ≤ length (now input) ⌝ }
+// All answers are written before the read, which could wait. What stands behind the last newline was cut short: it is answered, and not
+// played.
+fn read_on(turn: Turn, input: &mut [u8], out: &[u8; 65536]) -> Turn
+    ensures { λ r. ⌜ (r .start ≤ r .stop) × (r .stop ≤ length (now (input .exit))) ⌝ }
 {
-    let played = play_lines(console, journal, out, numbers, &input[..end]);
-    let mut after = flushed(played, out);
-    after.kept = keep(input, after.used, end);
-    after
-}
-
-fn read_on(
-    console: Console,
-    journal: &mut [u8],
-    out: &mut [u8],
-    numbers: &mut [u64; 4096],
-    input: &mut [u8],
-) -> Console {
-    let got = read_behind(input, console.kept);
+    let before = turn.output;
+    let output = flush(out, before);
+    if output.failed {
+        return over(output);
+    }
+    let kept = keep(input, turn.next, turn.end);
+    let got = read_behind(input, kept);
     if got.failed {
-        return broken_off(console);
+        return over(output);
     }
-    if got.count == 0 {
-        return last_turn(console, journal, out, numbers, input);
+    if 0 < got.count {
+        return blank(got.count, output);
     }
-    play_read(console, journal, out, numbers, input, got.count)
+    Turn {
+        start: 0,
+        stop: kept,
+        next: kept,
+        end: kept,
+        whole: false,
+        ended: false,
+        output,
+    }
 }
 
-pub fn run(start: Console, journal: &mut [u8]) {
-    let mut input = input_buffer();
+// The place of the next newline of what was read, or its end.
+fn stop_of(input: &[u8], next: usize, end: usize) -> usize
+    ensures { λ r. ⌜ (r < end → (next ≤ r) × (r < length (now (input .entry)))) ⌝ }
+{
+    if input.len() < end {
+        return end;
+    }
+    line_end(&input[..end], next)
+}
+
+// The next whole line of what was read, or a read.
+fn next_turn(turn: Turn, input: &mut [u8; 69632], out: &[u8; 65536]) -> Turn
+    ensures { λ r. ⌜ (r .start ≤ r .stop) × (r .stop ≤ 69632) ⌝ }
+{
+    let output = turn.output;
+    if turn.ended {
+        return over(flush(out, output));
+    }
+    let next = turn.next;
+    let end = turn.end;
+    let stop = stop_of(input, next, end);
+    if end <= stop {
+        return read_on(turn, input, out);
+    }
+    Turn {
+        start: next,
+        stop,
+        next: stop + 1,
+        end,
+        whole: true,
+        ended: false,
+        output,
+    }
+}
+
+fn heard(turn: Turn, in_file: bool, input: &[u8; 69632], numbers: &mut [u64; 4096]) -> Asked
+    requires { ⌜ (turn .start ≤ turn .stop) × (turn .stop ≤ 69632) ⌝ }
+{
+    let start = turn.start;
+    let stop = turn.stop;
+    let bytes: &[u8] = input;
+    parse_line(&bytes[start..stop], turn.whole, in_file, numbers)
+}
+
+// The record of an accepted call is kept before its answer is gathered; where it can't be, the call has no answer.
+fn answered(
+    turn: Turn,
+    file: i32,
+    journal: &[u8],
+    before: u64,
+    after: u64,
+    out: &mut [u8; 65536],
+    answer: Answer,
+) -> Turn {
+    let gathered = turn.output;
+    if !is_kept(file, journal, before, after) {
+        return over(gathered);
+    }
+    let output = say_answer(out, gathered, answer, journal);
+    Turn {
+        start: turn.start,
+        stop: turn.stop,
+        next: turn.next,
+        end: turn.end,
+        whole: turn.whole,
+        ended: output.failed || !turn.whole,
+        output,
+    }
+}
+
+// `file` is the descriptor of the journal's file, below 0 where the journal is memory alone. At the start all of the journal is lent.
+pub fn run(start: Session, file: i32, journal: &mut [u8]) {
+    let mut input = [0u8; 69632];
     let mut out = io::large_buffer();
-    let mut numbers = number_buffer();
-    let mut console = start;
+    let mut numbers = [0u64; 4096];
+    let mut session = start;
+    let mut lent = journal.len();
+    let mut turn = started();
     // A proved loop has to end, and nothing says that the input does: a count that no run uses up.
     let mut turns = u64::MAX;
     while turns > 0 {
-        let next = read_on(console, journal, &mut out, &mut numbers, &mut input);
-        if next.ended {
+        turns -= 1;
+        let line = next_turn(turn, &mut input, &out);
+        if line.ended {
             return;
         }
-        console = next;
-        turns -= 1;
+        let asking = heard(line, 0 <= file, &input, &mut numbers);
+        let response = respond(session, journal, lent, asking, &numbers);
+        let before = session.progress.records;
+        let next = response.session;
+        let answer = response.answer;
+        let said = answered(line, file, journal, before, next.progress.records, &mut out, answer);
+        session = next;
+        lent = response.lent;
+        turn = said;
     }
 }
