@@ -1,7 +1,6 @@
 // A trace played line by line, and the answers written before each read that could wait.
 ghost use Prim.Native.Nat.{_≤_, _<_};
 ghost use lib.ListN.{length};
-use crate::file::is_kept;
 use crate::gather::Output;
 use crate::gather::flush;
 use crate::gather::say_answer;
@@ -9,6 +8,7 @@ use console::lines::keep;
 use console::lines::line_end;
 use console::respond::respond;
 use console::say::Answer;
+use filing::is_kept;
 use input::Got;
 use input::read_some;
 use libc::STDIN_FILENO;
