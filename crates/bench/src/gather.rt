@@ -2,8 +2,8 @@
 ghost use Prim.Native.Nat.{_<_, _≤_};
 use console::output::put_byte;
 use console::output::put_hex;
-use console::say::Answer;
-use console::say::answer_line;
+use console::say::Said;
+use console::say::said_line;
 use libc::STDOUT_FILENO;
 use text::lines::Line;
 use text::lines::put_line;
@@ -109,12 +109,12 @@ fn say_part(out: &mut [u8], output: Output, journal: &[u8], from: usize, count: 
 }
 
 // An answer's line, and behind it the journal's bytes. An empty line is none.
-pub fn say_answer(out: &mut [u8], output: Output, answer: Answer, journal: &[u8]) -> Output {
-    let line = answer_line(answer);
+pub fn say_answer(out: &mut [u8], output: Output, said: Said, journal: &[u8]) -> Output {
+    let line = said_line(said);
     if line.len == 0 {
         return output;
     }
-    let said = say_line(out, output, line);
-    let shown = say_part(out, said, journal, answer.hex_from, answer.hex_count);
+    let written = say_line(out, output, line);
+    let shown = say_part(out, written, journal, said.hex_from, said.hex_count);
     say_newline(out, shown)
 }

@@ -1,7 +1,7 @@
 // Plays a trace, written as text, into the checker, and prints each answer.
 ghost use mathlib.Core.Path.{_≡_};
 ghost use lib.ListN.{length};
-use console::say::Answer;
+use console::say::Said;
 use console::say::numbered;
 use filing::Loaded;
 use filing::explain_bad;
@@ -11,7 +11,8 @@ use gather::Output;
 use gather::flush;
 use gather::say_answer;
 use play::run;
-use requests::forms::Request;
+use requests::forms::WORDS;
+use requests::words::index_of;
 use requests::words::same;
 use restoring::restore::restore;
 use session::state::Session;
@@ -30,20 +31,22 @@ fn memory() -> [u8; 4194304]
 }
 
 // One answer at once, before anything is read.
-fn is_said(answer: Answer) -> bool {
+fn is_said(said: Said) -> bool {
     let mut out = io::buffer();
     let nothing = Output {
         len: 0,
         failed: false,
     };
-    let said = say_answer(&mut out, nothing, answer, b"");
-    let written = flush(&out, said);
+    let gathered = say_answer(&mut out, nothing, said, b"");
+    let written = flush(&out, gathered);
     !written.failed
 }
 
 // What a restore of the file's bytes gave is said, and where it was refused what a person can do; whether the trace can be played.
 fn is_sound(path: &[u8], bytes: &[u8], number: u64, record: u64) -> bool {
-    if !is_said(numbered(Request::Restore, 2, number, record, 0)) {
+    let words = WORDS;
+    let row = index_of(&words, b"restore");
+    if !is_said(numbered(row, 2, number, record, 0)) {
         return false;
     }
     if number == 0 {

@@ -5,15 +5,16 @@ use crate::gather::Output;
 use crate::gather::flush;
 use crate::gather::say_answer;
 use console::lines::keep;
-use console::lines::line_end;
 use console::respond::respond;
-use console::say::Answer;
+use console::say::Said;
 use filing::is_kept;
 use input::Got;
 use input::read_some;
 use libc::STDIN_FILENO;
 use requests::requests::Asked;
 use requests::requests::parse_line;
+use requests::words::Over;
+use requests::words::past;
 use session::state::Session;
 
 // Of what was read, which ends at `end`, the line at hand stands from `start` to `stop`, and what is not yet played begins at `next`.
@@ -131,7 +132,7 @@ fn stop_of(input: &[u8], next: usize, end: usize) -> usize
     if input.len() < end {
         return end;
     }
-    line_end(&input[..end], next)
+    past(&input[..end], next, Over::Line)
 }
 
 // The next whole line of what was read, or a read.
@@ -176,13 +177,13 @@ fn answered(
     before: u64,
     after: u64,
     out: &mut [u8; 65536],
-    answer: Answer,
+    said: Said,
 ) -> Turn {
     let gathered = turn.output;
     if !is_kept(file, journal, before, after) {
         return over(gathered);
     }
-    let output = say_answer(out, gathered, answer, journal);
+    let output = say_answer(out, gathered, said, journal);
     Turn {
         start: turn.start,
         stop: turn.stop,
@@ -214,10 +215,10 @@ pub fn run(start: Session, file: i32, journal: &mut [u8]) {
         let response = respond(session, journal, lent, asking, &numbers);
         let before = session.progress.records;
         let next = response.session;
-        let answer = response.answer;
-        let said = answered(line, file, journal, before, next.progress.records, &mut out, answer);
+        let said = response.said;
+        let after = answered(line, file, journal, before, next.progress.records, &mut out, said);
         session = next;
         lent = response.lent;
-        turn = said;
+        turn = after;
     }
 }

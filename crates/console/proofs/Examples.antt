@@ -1,24 +1,31 @@
 -- The definitions, computed on answers.
 use mathlib.Core.Path.{_≡_, refl}
 use mathlib.Core.List.{[], _∷_}
+use Prim.Native.Nat.{ℕ}
+use Prim.Native.String.{String}
 use Rattle.text.specs.Text.{text, digits, spaced}
-use Rattle.requests.specs.declared.forms.Request.the-variants.{Nothing, Malformed, Offer, Stretch, Bytes}
+use Rattle.requests.specs.Words.{sameWord, indexOf}
+use Rattle.requests.specs.Forms.{tableWords, noForm, noLine, wordAt}
 use Rattle.console.specs.Say.{full, lineText}
 use Rattle.console.specs.Output.{hexText}
 
 unfoldable pub meaning : Unit {0}
-unfolding text digits spaced lineText hexText
+unfolding text digits spaced sameWord indexOf wordAt lineText hexText
 meaning = tt
 
-too-early : lineText Offer (full (record { number = 7; cycle = 120; gap = 3 })) 0 ≡ text "offer 7 120 3"
+-- the row of a word
+abbrev of : String → ℕ
+of word = indexOf (text word) tableWords
+
+too-early : lineText (of "offer") (full (record { number = 7; cycle = 120; gap = 3 })) 0 ≡ text "offer 7 120 3"
 unfolding meaning
 too-early = refl
 
-no-stretch : lineText Stretch (0 ∷ []) 0 ≡ text "stretch 0"
+no-stretch : lineText (of "stretch") (0 ∷ []) 0 ≡ text "stretch 0"
 unfolding meaning
 no-stretch = refl
 
-bytes-before : lineText Bytes [] 2 ≡ text "bytes "
+bytes-before : lineText (of "bytes") [] 2 ≡ text "bytes "
 unfolding meaning
 bytes-before = refl
 
@@ -26,10 +33,10 @@ bytes-shown : hexText (0 ∷ 175 ∷ []) ≡ text "00af"
 unfolding meaning
 bytes-shown = refl
 
-no-form : lineText Malformed [] 0 ≡ text "?"
+no-form : lineText noForm [] 0 ≡ text "?"
 unfolding meaning
 no-form = refl
 
-nothing-said : lineText Nothing [] 0 ≡ []
+nothing-said : lineText noLine [] 0 ≡ []
 unfolding meaning
 nothing-said = refl

@@ -1,49 +1,44 @@
 -- Laws of responses.
 use mathlib.Core.Path.{_≡_, refl, sym, _∙_, ap, subst}
-use mathlib.Core.Bool.{Bool, true, false}
 use mathlib.Core.List.{List, [], _∷_, _++_}
-use Prim.Native.Nat.{ℕ, zero, suc, _+_, _%_, _≤_, _<_, min}
+use Prim.Native.Nat.{ℕ, zero, suc, _+_, _%_, _≤_, _<_}
 use native.Mathlib.Numerals.{add-one}
 use native.Mathlib.Omega.{arith}
-use lib.Dec.{leb}
 use lib.ListN.{length, take, drop, set, getD, replicate, length-take, length-drop, List·getD-eq-default}
-use lib.Seq.{take-all, length-take-le, take-suc-set}
-use borrow.Author.Tests.{leb-true, leb-false}
+use lib.Seq.{length-take-le, take-suc-set}
 use Rattle.timing.specs.declared.clocks.DramCycles.{DramCycles}
 use Rattle.history.specs.Answers.{Reply, Verdict}
 use Rattle.session.specs.declared.state.Session.{Session}
 use Rattle.journal.specs.Restore.{Part, partOf}
 use Rattle.statements.specs.Exact.{Left, RestoredIn, RestoreLeft, stretchIn}
-use Rattle.requests.specs.declared.forms.Request.{Request}
-use Rattle.requests.specs.declared.forms.Request.the-variants.{Restore}
-use Rattle.console.specs.declared.say.Answer.{Answer}
+use Rattle.console.specs.declared.say.Said.{Said}
 use Rattle.console.specs.declared.respond.Response.{Response}
-use Rattle.console.specs.Say.{answerOf, withBytes, Tells}
+use Rattle.console.specs.Say.{saidOf, withBytes, Tells}
 use Rattle.console.specs.Respond.{at, gapsFrom, prints, says, called, restores, Responds}
 
-abbrev pub responseOf : Session → ℕ → Answer → Response
-responseOf s lent a = record { session = s; lent = lent; answer = a }
+abbrev pub responseOf : Session → ℕ → Said → Response
+responseOf s lent a = record { session = s; lent = lent; said = a }
 
 -- at most three numbers
 abbrev pub numbersOf : ℕ → ℕ → ℕ → ℕ → List ℕ
 numbersOf count a b c = take count (a ∷ b ∷ c ∷ replicate 19 0)
 
 -- numbers alone
-pub tells-is : (q : Request) (ns : List ℕ) (a : Answer) (s : Session) (lent : ℕ) (j : List ℕ) → Tells q ns a → Responds (says q ns s lent j) (responseOf s lent a) j
-tells-is q ns a s lent j t =
-    record { request = t .0; numbers = t .1; place = t .2; count = t .3; printed = rw (t .3); state = refl; lent = refl; journal = refl }
+pub tells-is : (row : ℕ) (ns : List ℕ) (a : Said) (s : Session) (lent : ℕ) (j : List ℕ) → Tells row ns a → Responds (says row ns s lent j) (responseOf s lent a) j
+tells-is row ns a s lent j t =
+    record { row = t .0; numbers = t .1; place = t .2; count = t .3; printed = rw (t .3); state = refl; lent = refl; journal = refl }
 
-module _ (q : Request) (count a b c : ℕ) (said : Answer) (e : said ≡ answerOf q count a b c) where
-  pub says-is : (s : Session) (lent : ℕ) (j : List ℕ) → Responds (says q (numbersOf count a b c) s lent j) (responseOf s lent said) j
-  says-is s lent j = tells-is q _ said s lent j (rw e (refl, refl, refl, refl))
+module _ (row : ℕ) (count a b c : ℕ) (said : Said) (e : said ≡ saidOf row count a b c) where
+  pub says-is : (s : Session) (lent : ℕ) (j : List ℕ) → Responds (says row (numbersOf count a b c) s lent j) (responseOf s lent said) j
+  says-is s lent j = tells-is row _ said s lent j (rw e (refl, refl, refl, refl))
 
   -- a call's, which saw the first bytes of the journal
   pub called-is : (numbers : Reply → List ℕ) (v : Verdict) (before next : Session) (lent : ℕ) (j : List ℕ) (reply : Reply) (bytes : List ℕ) → Left v before (take lent j) reply next bytes → numbersOf count a b c ≡ numbers reply
-      → Responds (called q numbers v before lent j) (responseOf next lent said) (bytes ++ drop lent j)
+      → Responds (called row numbers v before lent j) (responseOf next lent said) (bytes ++ drop lent j)
   called-is numbers v before next lent j reply bytes left is =
       rw e
       (record {
-        request = refl;
+        row = refl;
         numbers = is ∙ ap numbers (left .answer);
         place = refl;
         count = refl;
@@ -54,18 +49,18 @@ module _ (q : Request) (count a b c : ℕ) (said : Answer) (e : said ≡ answerO
       })
 
   -- with the journal's bytes behind them
-  pub prints-is : (told : Answer) (s : Session) (lent from size : ℕ) (j : List ℕ) → told ≡ withBytes said from size → from + size ≤ length j
-      → Responds (prints q (numbersOf count a b c) from (take size (drop from j)) s lent j) (responseOf s lent told) j
+  pub prints-is : (told : Said) (s : Session) (lent from size : ℕ) (j : List ℕ) → told ≡ withBytes said from size → from + size ≤ length j
+      → Responds (prints row (numbersOf count a b c) from (take size (drop from j)) s lent j) (responseOf s lent told) j
   prints-is told s lent from size j f room =
       let left : size ≤ length (drop from j) = simp length-drop (omega arith) in
       rw (f, e)
-      (record { request = refl; numbers = refl; place = refl; count = sym (length-take-le size (drop from j) left); printed = refl; state = refl; lent = refl; journal = refl })
+      (record { row = refl; numbers = refl; place = refl; count = sym (length-take-le size (drop from j) left); printed = refl; state = refl; lent = refl; journal = refl })
 
-pub restores-is : (v : RestoredIn) (next : Session) (lent : ℕ) (j : List ℕ) (number at : ℕ) (said : Answer) → RestoreLeft v number at next → said ≡ answerOf Restore 2 number at 0 → Responds (restores v lent j) (responseOf next lent said) j
-restores-is v next lent j number at said told e =
+pub restores-is : (row : ℕ) (v : RestoredIn) (next : Session) (lent : ℕ) (j : List ℕ) (number at : ℕ) (said : Said) → RestoreLeft v number at next → said ≡ saidOf row 2 number at 0 → Responds (restores row v lent j) (responseOf next lent said) j
+restores-is row v next lent j number at said told e =
     rw e
     (record {
-      request = refl;
+      row = refl;
       numbers = rw (told .answer, told .beside);
       place = refl;
       count = refl;
@@ -83,13 +78,6 @@ stretch-size s lent j p bytes e inside low is =
     let same : stretchIn s (length (take lent j)) ≡ p = ap (stretchIn s) all ∙ sym e in
     let left : p .size ≤ length (drop (p .start) (take lent j)) = simp length-drop (omega (arith, all)) in
     ap length (is ∙ ap (λ (q : Part). partOf q (take lent j)) same) ∙ length-take-le (p .size) (drop (p .start) (take lent j)) left
-
-pub take-least : (count n : ℕ) (j : List ℕ) → n ≡ min count (length j) → take n j ≡ take count j
-take-least count n j e = go (leb count (length j)) refl
-  where
-    go : (t : Bool) → leb count (length j) ≡ t → take n j ≡ take count j
-    go true f = let same : n ≡ count = omega (arith, leb-true count (length j) f) in rw same
-    go false f = take-all n j (omega (arith, leb-false count (length j) f)) ∙ sym (take-all count j (omega (arith, leb-false count (length j) f)))
 
 -- a request's numbers
 pub nth-none : (count i : ℕ) (l : List ℕ) → count ≤ i → 0 ≡ at (take count l) i

@@ -26,27 +26,15 @@ use Rattle.statements.specs.Exact.{
 }
 use Rattle.requests.specs.declared.requests.Asked.{Asked}
 use Rattle.requests.specs.declared.forms.Request.{Request}
-use Rattle.requests.specs.declared.forms.Request.the-variants.{
-  Nothing,
-  Malformed,
-  Open,
-  Offer,
-  Ask,
-  Back,
-  Status,
-  Stretch,
-  Lend,
-  Restore,
-  Poke,
-  Bytes,
-}
+use Rattle.requests.specs.declared.forms.Request.the-variants as asks
+use Rattle.requests.specs.Forms.{noForm, formAt}
 use Rattle.console.specs.declared.respond.Response.{Response}
 use Rattle.console.specs.Say.{brief, full, statusNumbers}
 
--- the answer's word and numbers, the journal's bytes that are printed behind them as hexadecimal and the place where they stand, the
+-- the row whose word the answer has, its numbers, the journal's bytes that are printed behind them as hexadecimal and the place where they stand, the
 -- state, how much is lent, and the journal
 pub record Outcome : Type 0 where
-  pub request : Request
+  pub row : ℕ
   pub numbers : List ℕ
   pub printed : List ℕ
   pub place : ℕ
@@ -55,15 +43,15 @@ pub record Outcome : Type 0 where
   pub journal : List ℕ
 
 -- numbers and bytes, and numbers alone
-abbrev pub prints : Request → List ℕ → ℕ → List ℕ → Session → ℕ → List ℕ → Outcome
-prints q ns place printed s lent j = record { request = q; numbers = ns; printed = printed; place = place; state = s; lent = lent; journal = j }
+abbrev pub prints : ℕ → List ℕ → ℕ → List ℕ → Session → ℕ → List ℕ → Outcome
+prints row ns place printed s lent j = record { row = row; numbers = ns; printed = printed; place = place; state = s; lent = lent; journal = j }
 
-abbrev pub says : Request → List ℕ → Session → ℕ → List ℕ → Outcome
-says q ns s lent j = prints q ns 0 [] s lent j
+abbrev pub says : ℕ → List ℕ → Session → ℕ → List ℕ → Outcome
+says row ns s lent j = prints row ns 0 [] s lent j
 
 -- a call sees the first bytes of the journal, as many as are lent; those behind them stay
-abbrev pub called : Request → (Reply → List ℕ) → Verdict → Session → ℕ → List ℕ → Outcome
-called q numbers v s lent j = says q (numbers (replyOf v)) (stateAfter s v) lent (bytesAfter (take lent j) (s .progress .records) v ++ drop lent j)
+abbrev pub called : ℕ → (Reply → List ℕ) → Verdict → Session → ℕ → List ℕ → Outcome
+called row numbers v s lent j = says row (numbers (replyOf v)) (stateAfter s v) lent (bytesAfter (take lent j) (s .progress .records) v ++ drop lent j)
 
 -- a request's numbers; 0 where it has none
 abbrev pub at : List ℕ → ℕ → ℕ
@@ -82,53 +70,53 @@ settingsOf ns =
     }
 
 -- more than there is, is all of it
-abbrev pub lends : ℕ → Session → List ℕ → Outcome
-lends count s j = let n = min count (length j) in says Lend (n ∷ []) s n j
+abbrev pub lends : ℕ → ℕ → Session → List ℕ → Outcome
+lends row count s j = let n = min count (length j) in says row (n ∷ []) s n j
 
-abbrev pub restores : RestoredIn → ℕ → List ℕ → Outcome
-restores v lent j = says Restore (restoredNumber v ∷ restoredAt v ∷ []) (restoredState v) lent j
+abbrev pub restores : ℕ → RestoredIn → ℕ → List ℕ → Outcome
+restores row v lent j = says row (restoredNumber v ∷ restoredAt v ∷ []) (restoredState v) lent j
 
-abbrev pub pokes : ℕ → ℕ → Session → ℕ → List ℕ → Outcome
-pokes place byte s lent j = cond (ltb place (length j)) (says Poke (place ∷ byte ∷ []) s lent (set j place byte)) (says Malformed [] s lent j)
+abbrev pub pokes : ℕ → ℕ → ℕ → Session → ℕ → List ℕ → Outcome
+pokes row place byte s lent j = cond (ltb place (length j)) (says row (place ∷ byte ∷ []) s lent (set j place byte)) (says noForm [] s lent j)
 
-abbrev pub shows : ℕ → ℕ → Session → ℕ → List ℕ → Outcome
-shows from count s lent j = cond (leb (from + count) (length j)) (prints Bytes [] from (take count (drop from j)) s lent j) (says Malformed [] s lent j)
+abbrev pub shows : ℕ → ℕ → ℕ → Session → ℕ → List ℕ → Outcome
+shows row from count s lent j = cond (leb (from + count) (length j)) (prints row [] from (take count (drop from j)) s lent j) (says noForm [] s lent j)
 
 abbrev pub room : ℕ → List ℕ → ℕ
 room lent j = roomOf (length (take lent j))
 
--- A REQUEST, with its numbers
-unfoldable pub outcomeIn : Session → List ℕ → ℕ → Request → List ℕ → Outcome
-outcomeIn s j lent Nothing ns = says Nothing [] s lent j
-outcomeIn s j lent Malformed ns = says Malformed [] s lent j
-outcomeIn s j lent Open ns = called Open brief (openIn (room lent j) s (settingsOf ns)) s lent j
-outcomeIn s j lent Offer ns = called Offer full (offerIn (room lent j) s (at ns 0) (at ns 1) (at ns 2) (at ns 3)) s lent j
-outcomeIn s j lent Ask ns = says Ask (full (earliestIn s (at ns 0) (at ns 1) (at ns 2))) s lent j
-outcomeIn s j lent Back ns = called Back brief (takeBackIn (room lent j) s) s lent j
-outcomeIn s j lent Status ns = says Status (statusNumbers (statusIn s)) s lent j
-outcomeIn s j lent Stretch ns = let part = stretchIn s lent in prints Stretch (part .size ∷ []) (part .start) (partOf part j) s lent j
-outcomeIn s j lent Lend ns = lends (at ns 0) s j
-outcomeIn s j lent Restore ns = restores (restoreIn (take (at ns 0) j)) lent j
-outcomeIn s j lent Poke ns = pokes (at ns 0) (at ns 1 % 256) s lent j
-outcomeIn s j lent Bytes ns = shows (at ns 0) (at ns 1) s lent j
+-- A REQUEST, with its row and its numbers
+unfoldable pub outcomeIn : Session → List ℕ → ℕ → Request → ℕ → List ℕ → Outcome
+outcomeIn s j lent asks.Nothing row ns = says row [] s lent j
+outcomeIn s j lent asks.Malformed row ns = says row [] s lent j
+outcomeIn s j lent asks.Open row ns = called row brief (openIn (room lent j) s (settingsOf ns)) s lent j
+outcomeIn s j lent asks.Offer row ns = called row full (offerIn (room lent j) s (at ns 0) (at ns 1) (at ns 2) (at ns 3)) s lent j
+outcomeIn s j lent asks.Ask row ns = says row (full (earliestIn s (at ns 0) (at ns 1) (at ns 2))) s lent j
+outcomeIn s j lent asks.Back row ns = called row brief (takeBackIn (room lent j) s) s lent j
+outcomeIn s j lent asks.Status row ns = says row (statusNumbers (statusIn s)) s lent j
+outcomeIn s j lent asks.Stretch row ns = let part = stretchIn s lent in prints row (part .size ∷ []) (part .start) (partOf part j) s lent j
+outcomeIn s j lent asks.Lend row ns = lends row (at ns 0) s j
+outcomeIn s j lent asks.Restore row ns = restores row (restoreIn (take (at ns 0) j)) lent j
+outcomeIn s j lent asks.Poke row ns = pokes row (at ns 0) (at ns 1 % 256) s lent j
+outcomeIn s j lent asks.Bytes row ns = shows row (at ns 0) (at ns 1) s lent j
 
--- no more is lent than there is; the request's numbers are the first of the array
+-- no more is lent than there is; the request is that of the row, and its numbers are the first of the array
 abbrev pub outcome : Session → List ℕ → ℕ → Asked → List ℕ → Outcome
-outcome s j lent a numbers = outcomeIn s j (min lent (length j)) (a .request) (take (a .count) numbers)
+outcome s j lent a numbers = outcomeIn s j (min lent (length j)) (formAt (a .row) .0) (a .row) (take (a .count) numbers)
 
 pub record Responds (o : Outcome) (r : Response) (after : List ℕ) : Type 0 where
-  pub request : r .answer .request ≡ o .request
-  pub numbers : take (r .answer .count) (r .answer .numbers) ≡ o .numbers
-  pub place : r .answer .«hex_from» ≡ o .place
-  pub count : r .answer .«hex_count» ≡ length (o .printed)
-  pub printed : take (r .answer .«hex_count») (drop (r .answer .«hex_from») after) ≡ o .printed
+  pub row : r .said .row ≡ o .row
+  pub numbers : take (r .said .count) (r .said .numbers) ≡ o .numbers
+  pub place : r .said .«hex_from» ≡ o .place
+  pub count : r .said .«hex_count» ≡ length (o .printed)
+  pub printed : take (r .said .«hex_count») (drop (r .said .«hex_from») after) ≡ o .printed
   pub state : r .session ≡ o .state
   pub lent : r .lent ≡ o .lent
   pub journal : after ≡ o .journal
 
 -- whatever the journal
-abbrev pub Says : Request → List ℕ → Session → ℕ → Response → Type 0
-Says q ns s lent r = (j : List ℕ) → Responds (says q ns s lent j) r j
+abbrev pub Says : ℕ → List ℕ → Session → ℕ → Response → Type 0
+Says row ns s lent r = (j : List ℕ) → Responds (says row ns s lent j) r j
 
-abbrev pub Answers : Request → List ℕ → Session → ℕ → Response → Type 0
-Answers q ns s lent r = (j : List ℕ) → Responds (outcomeIn s j lent q ns) r j
+abbrev pub Answers : Request → ℕ → List ℕ → Session → ℕ → Response → Type 0
+Answers q row ns s lent r = (j : List ℕ) → Responds (outcomeIn s j lent q row ns) r j

@@ -8,9 +8,8 @@ use lib.ListN.{take, replicate}
 use Rattle.text.specs.Text.{spaced}
 use Rattle.history.specs.Answers.{Reply, Status}
 use Rattle.journal.specs.Listing.{space}
-use Rattle.requests.specs.declared.forms.Request.{Request}
-use Rattle.requests.specs.Forms.{wordOf}
-use Rattle.console.specs.declared.say.Answer.{Answer}
+use Rattle.requests.specs.Forms.{wordAt}
+use Rattle.console.specs.declared.say.Said.{Said}
 
 -- the numbers of a call's answer, alone or with the earliest cycle and its gap; and those of a status
 abbrev pub brief : Reply → List ℕ
@@ -26,20 +25,20 @@ statusNumbers s = s .number ∷ s .client ∷ s .opening ∷ s .survivors ∷ s 
 abbrev pub spaceBefore : ℕ → List ℕ
 spaceBefore count = cond (eqb count 0) [] space
 
--- THE LINE: the request's own word, numbers behind it, and a space before what is printed as hexadecimal
-unfoldable pub lineText : Request → List ℕ → ℕ → List ℕ
-lineText q ns count = (wordOf q ++ spaced ns) ++ spaceBefore count
+-- THE LINE: the row's own word, numbers behind it, and a space before what is printed as hexadecimal
+unfoldable pub lineText : ℕ → List ℕ → ℕ → List ℕ
+lineText row ns count = (wordAt row ++ spaced ns) ++ spaceBefore count
 
-abbrev pub answerText : Answer → List ℕ
-answerText a = lineText (a .request) (take (a .count) (a .numbers)) (a .«hex_count»)
+abbrev pub saidText : Said → List ℕ
+saidText a = lineText (a .row) (take (a .count) (a .numbers)) (a .«hex_count»)
 
-abbrev pub Tells : Request → List ℕ → Answer → Type 0
-Tells q ns a = (a .request ≡ q) × (take (a .count) (a .numbers) ≡ ns) × (a .«hex_from» ≡ 0) × (a .«hex_count» ≡ 0)
+abbrev pub Tells : ℕ → List ℕ → Said → Type 0
+Tells row ns a = (a .row ≡ row) × (take (a .count) (a .numbers) ≡ ns) × (a .«hex_from» ≡ 0) × (a .«hex_count» ≡ 0)
 
 -- at most three numbers
-abbrev pub answerOf : Request → ℕ → ℕ → ℕ → ℕ → Answer
-answerOf q count a b c =
-    record { request = q; count = count; numbers = a ∷ b ∷ c ∷ replicate 19 0; «hex_from» = 0; «hex_count» = 0 }
+abbrev pub saidOf : ℕ → ℕ → ℕ → ℕ → ℕ → Said
+saidOf row count a b c =
+    record { row = row; count = count; numbers = a ∷ b ∷ c ∷ replicate 19 0; «hex_from» = 0; «hex_count» = 0 }
 
-abbrev pub withBytes : Answer → ℕ → ℕ → Answer
-withBytes a from count = record { request = a .request; count = a .count; numbers = a .numbers; «hex_from» = from; «hex_count» = count }
+abbrev pub withBytes : Said → ℕ → ℕ → Said
+withBytes a from count = record { row = a .row; count = a .count; numbers = a .numbers; «hex_from» = from; «hex_count» = count }

@@ -3,26 +3,10 @@ ghost use mathlib.Core.Path.{_≡_};
 ghost use lib.ListN.{length};
 ghost use Prim.Native.Nat.{min};
 ghost use Rattle.journal.specs.Restore.{putAt};
-ghost use Rattle.console.specs.Output.{lineEnd, underWay};
-
-const NEWLINE: u8 = 10;
+ghost use Rattle.console.specs.Output.{underWay};
 
 // One byte more than a line may have: of a longer one this much is kept, and it stays too long.
 const MAX_KEPT: usize = 4097;
-
-// The place of the next newline, or the end of the bytes.
-pub fn line_end(bytes: &[u8], from: usize) -> usize
-    ensures { λ r. ⌜ r ≡ lineEnd (now (bytes .entry)) from ⌝ }
-{
-    let mut i = from;
-    while i < bytes.len() {
-        if bytes[i] == NEWLINE {
-            return i;
-        }
-        i += 1;
-    }
-    bytes.len()
-}
 
 // The line under way, from a place to an end, goes to the front; how much of it is kept.
 pub fn keep(bytes: &mut [u8], from: usize, end: usize) -> usize

@@ -6,9 +6,9 @@ ghost use lib.ListN.{length, take, getD};
 ghost use Rattle.session.specs.declared.state.Session.{Session};
 ghost use Rattle.requests.specs.declared.forms.Request.the-variants as asks;
 ghost use Rattle.console.specs.Respond.{gapsFrom, outcomeIn, outcome, Responds, Says, Answers};
-use crate::say::Answer;
+use crate::say::Said;
 use crate::say::numbered;
-use crate::say::status_answer;
+use crate::say::status_said;
 use crate::say::with_bytes;
 use checker::calls::earliest;
 use checker::calls::offer;
@@ -18,7 +18,9 @@ use checker::calls::stretch;
 use checker::calls::stretch_place;
 use checker::calls::take_back;
 use requests::forms::Request;
+use requests::forms::form_at;
 use requests::requests::Asked;
+use requests::requests::NO_FORM;
 use restoring::restore::restore;
 use session::state::Session;
 use timing::clocks::ControllerCycles;
@@ -28,7 +30,7 @@ use timing::clocks::DramCycles;
 pub struct Response {
     pub session: Session,
     pub lent: usize,
-    pub answer: Answer,
+    pub said: Said,
 }
 
 fn smaller(a: u64, b: usize) -> usize
@@ -41,56 +43,56 @@ fn smaller(a: u64, b: usize) -> usize
 }
 
 // A number of a request; 0 where it has none.
-fn nth(numbers: &[u64; 4096], count: usize, i: usize) -> u64
+fn nth(numbers: &[u64; 4096], asking: Asked, i: usize) -> u64
     requires { ⌜ i < 4096 ⌝ }
-    ensures { λ r. ⌜ r ≡ getD (take count (now (numbers .entry))) i 0 ⌝ }
+    ensures { λ r. ⌜ r ≡ getD (take (asking .count) (now (numbers .entry))) i 0 ⌝ }
 {
-    if count <= i {
+    if asking.count <= i {
         return 0;
     }
     numbers[i]
 }
 
 // The twenty gaps behind the four first numbers of an opening.
-fn gaps_of(numbers: &[u64; 4096], count: usize) -> [DramCycles; 20]
-    ensures { λ r. ⌜ r ≡ gapsFrom 20 4 (take count (now (numbers .entry))) ⌝ }
+fn gaps_of(numbers: &[u64; 4096], asking: Asked) -> [DramCycles; 20]
+    ensures { λ r. ⌜ r ≡ gapsFrom 20 4 (take (asking .count) (now (numbers .entry))) ⌝ }
 {
     let mut gaps = [DramCycles(0); 20];
     let mut i = 0;
     while i < 20 {
-        let gap = DramCycles((nth(numbers, count, 4 + i) % 65536) as u16);
+        let gap = DramCycles((nth(numbers, asking, 4 + i) % 65536) as u16);
         gaps[i] = gap;
         i += 1;
     }
     gaps
 }
 
-fn plain(session: Session, lent: usize, request: Request) -> Response
-    ensures { λ r. ⌜ Says request [] session lent r ⌝ }
+fn plain(session: Session, lent: usize, row: usize) -> Response
+    ensures { λ r. ⌜ Says row [] session lent r ⌝ }
 {
-    let said = numbered(request, 0, 0, 0, 0);
+    let said = numbered(row, 0, 0, 0, 0);
     Response {
         session,
         lent,
-        answer: said,
+        said,
     }
 }
 
-fn opened(
+fn to_open(
     session: Session,
     journal: &mut [u8],
     lent: usize,
+    asking: Asked,
     numbers: &[u64; 4096],
-    count: usize,
 ) -> Response
     requires { ⌜ lent ≤ length (now journal) ⌝ }
-    ensures { λ r. ⌜ Responds (outcomeIn session (now (journal .entry)) lent asks.Open (take count (now (numbers .entry)))) r (now (journal .exit)) ⌝ }
+    ensures { λ r. ⌜ Responds (outcomeIn session (now (journal .entry)) lent asks.Open (asking .row) (take (asking .count) (now (numbers .entry)))) r (now (journal .exit)) ⌝ }
 {
-    let ratio = nth(numbers, count, 0);
-    let ranks = nth(numbers, count, 1);
-    let mode = nth(numbers, count, 2);
-    let client = (nth(numbers, count, 3) % 4294967296) as u32;
-    let gaps = gaps_of(numbers, count);
+    let ratio = nth(numbers, asking, 0);
+    let ranks = nth(numbers, asking, 1);
+    let mode = nth(numbers, asking, 2);
+    let client = (nth(numbers, asking, 3) % 4294967296) as u32;
+    let gaps = gaps_of(numbers, asking);
     let done = open_session(
         session,
         &mut journal[..lent],
@@ -101,181 +103,15 @@ fn opened(
         gaps,
     );
     let next = done.session;
-    let said = numbered(Request::Open, 1, done.number, 0, 0);
+    let said = numbered(asking.row, 1, done.number, 0, 0);
     Response {
         session: next,
         lent,
-        answer: said,
+        said,
     }
 }
 
-fn offered(
-    session: Session,
-    journal: &mut [u8],
-    lent: usize,
-    numbers: &[u64; 4096],
-    count: usize,
-) -> Response
-    requires { ⌜ lent ≤ length (now journal) ⌝ }
-    ensures { λ r. ⌜ Responds (outcomeIn session (now (journal .entry)) lent asks.Offer (take count (now (numbers .entry)))) r (now (journal .exit)) ⌝ }
-{
-    let kind = nth(numbers, count, 0);
-    let rank = nth(numbers, count, 1);
-    let bank = nth(numbers, count, 2);
-    let cycle = ControllerCycles(nth(numbers, count, 3));
-    let done = offer(session, &mut journal[..lent], kind, rank, bank, cycle);
-    let next = done.session;
-    let reply = done.answer;
-    let at = reply.cycle;
-    let said = numbered(Request::Offer, 3, reply.number, at.0, reply.gap);
-    Response {
-        session: next,
-        lent,
-        answer: said,
-    }
-}
-
-fn asked(session: Session, lent: usize, numbers: &[u64; 4096], count: usize) -> Response
-    ensures { λ r. ⌜ Answers asks.Ask (take count (now (numbers .entry))) session lent r ⌝ }
-{
-    let kind = nth(numbers, count, 0);
-    let rank = nth(numbers, count, 1);
-    let bank = nth(numbers, count, 2);
-    let reply = earliest(session, kind, rank, bank);
-    let at = reply.cycle;
-    let said = numbered(Request::Ask, 3, reply.number, at.0, reply.gap);
-    Response {
-        session,
-        lent,
-        answer: said,
-    }
-}
-
-fn taken_back(session: Session, journal: &mut [u8], lent: usize) -> Response
-    requires { ⌜ lent ≤ length (now journal) ⌝ }
-    ensures { λ r. ⌜ ((ns : List ℕ) → Responds (outcomeIn session (now (journal .entry)) lent asks.Back ns) r (now (journal .exit))) ⌝ }
-{
-    let done = take_back(session, &mut journal[..lent]);
-    let next = done.session;
-    let said = numbered(Request::Back, 1, done.number, 0, 0);
-    Response {
-        session: next,
-        lent,
-        answer: said,
-    }
-}
-
-fn told(session: Session, lent: usize) -> Response
-    ensures { λ r. ⌜ ((ns : List ℕ) → Answers asks.Status ns session lent r) ⌝ }
-{
-    let said = status_answer(status(session));
-    Response {
-        session,
-        lent,
-        answer: said,
-    }
-}
-
-fn stretched(session: Session, journal: &[u8], lent: usize) -> Response
-    requires { ⌜ lent ≤ length (now journal) ⌝ }
-    ensures { λ r. ⌜ ((ns : List ℕ) → Responds (outcomeIn session (now (journal .entry)) lent asks.Stretch ns) r (now (journal .entry))) ⌝ }
-{
-    let place = stretch_place(session, lent);
-    let part = stretch(session, &journal[..lent]);
-    let size = part.len();
-    let said = with_bytes(
-        numbered(Request::Stretch, 1, size as u64, 0, 0),
-        place.start,
-        size,
-    );
-    Response {
-        session,
-        lent,
-        answer: said,
-    }
-}
-
-fn lend(session: Session, journal: &[u8], numbers: &[u64; 4096], count: usize) -> Response
-    ensures { λ r. ⌜ ((lent : ℕ) → Responds (outcomeIn session (now (journal .entry)) lent asks.Lend (take count (now (numbers .entry)))) r (now (journal .entry))) ⌝ }
-{
-    let lent = smaller(nth(numbers, count, 0), journal.len());
-    let said = numbered(Request::Lend, 1, lent as u64, 0, 0);
-    Response {
-        session,
-        lent,
-        answer: said,
-    }
-}
-
-fn restored(journal: &[u8], lent: usize, numbers: &[u64; 4096], count: usize) -> Response
-    ensures { λ r. ⌜ ((s : Session) → Responds (outcomeIn s (now (journal .entry)) lent asks.Restore (take count (now (numbers .entry)))) r (now (journal .entry))) ⌝ }
-{
-    let n = smaller(nth(numbers, count, 0), journal.len());
-    let done = restore(&journal[..n]);
-    let next = done.session;
-    let said = numbered(Request::Restore, 2, done.number, done.record, 0);
-    Response {
-        session: next,
-        lent,
-        answer: said,
-    }
-}
-
-fn poked(
-    session: Session,
-    journal: &mut [u8],
-    lent: usize,
-    numbers: &[u64; 4096],
-    count: usize,
-) -> Response
-    ensures { λ r. ⌜ Responds (outcomeIn session (now (journal .entry)) lent asks.Poke (take count (now (numbers .entry)))) r (now (journal .exit)) ⌝ }
-{
-    let at = nth(numbers, count, 0);
-    let byte = (nth(numbers, count, 1) % 256) as u8;
-    if journal.len() as u64 <= at {
-        return plain(session, lent, Request::Malformed);
-    }
-    let place = at as usize;
-    journal[place] = byte;
-    let said = numbered(Request::Poke, 2, at, byte as u64, 0);
-    Response {
-        session,
-        lent,
-        answer: said,
-    }
-}
-
-fn shown(
-    session: Session,
-    journal: &[u8],
-    lent: usize,
-    numbers: &[u64; 4096],
-    count: usize,
-) -> Response
-    ensures { λ r. ⌜ Responds (outcomeIn session (now (journal .entry)) lent asks.Bytes (take count (now (numbers .entry)))) r (now (journal .entry)) ⌝ }
-{
-    let from = nth(numbers, count, 0);
-    let wanted = nth(numbers, count, 1);
-    let len = journal.len() as u64;
-    if len < wanted {
-        return plain(session, lent, Request::Malformed);
-    }
-    if len - wanted < from {
-        return plain(session, lent, Request::Malformed);
-    }
-    let said = with_bytes(
-        numbered(Request::Bytes, 0, 0, 0, 0),
-        from as usize,
-        wanted as usize,
-    );
-    Response {
-        session,
-        lent,
-        answer: said,
-    }
-}
-
-fn performed(
+fn to_offer(
     session: Session,
     journal: &mut [u8],
     lent: usize,
@@ -283,23 +119,185 @@ fn performed(
     numbers: &[u64; 4096],
 ) -> Response
     requires { ⌜ lent ≤ length (now journal) ⌝ }
-    ensures { λ r. ⌜ Responds (outcomeIn session (now (journal .entry)) lent (asking .request) (take (asking .count) (now (numbers .entry)))) r (now (journal .exit)) ⌝ }
+    ensures { λ r. ⌜ Responds (outcomeIn session (now (journal .entry)) lent asks.Offer (asking .row) (take (asking .count) (now (numbers .entry)))) r (now (journal .exit)) ⌝ }
 {
-    let request = asking.request;
-    let count = asking.count;
+    let kind = nth(numbers, asking, 0);
+    let rank = nth(numbers, asking, 1);
+    let bank = nth(numbers, asking, 2);
+    let cycle = ControllerCycles(nth(numbers, asking, 3));
+    let done = offer(session, &mut journal[..lent], kind, rank, bank, cycle);
+    let next = done.session;
+    let reply = done.answer;
+    let at = reply.cycle;
+    let said = numbered(asking.row, 3, reply.number, at.0, reply.gap);
+    Response {
+        session: next,
+        lent,
+        said,
+    }
+}
+
+fn to_ask(session: Session, lent: usize, asking: Asked, numbers: &[u64; 4096]) -> Response
+    ensures { λ r. ⌜ Answers asks.Ask (asking .row) (take (asking .count) (now (numbers .entry))) session lent r ⌝ }
+{
+    let kind = nth(numbers, asking, 0);
+    let rank = nth(numbers, asking, 1);
+    let bank = nth(numbers, asking, 2);
+    let reply = earliest(session, kind, rank, bank);
+    let at = reply.cycle;
+    let said = numbered(asking.row, 3, reply.number, at.0, reply.gap);
+    Response {
+        session,
+        lent,
+        said,
+    }
+}
+
+fn to_back(session: Session, journal: &mut [u8], lent: usize, row: usize) -> Response
+    requires { ⌜ lent ≤ length (now journal) ⌝ }
+    ensures { λ r. ⌜ ((ns : List ℕ) → Responds (outcomeIn session (now (journal .entry)) lent asks.Back row ns) r (now (journal .exit))) ⌝ }
+{
+    let done = take_back(session, &mut journal[..lent]);
+    let next = done.session;
+    let said = numbered(row, 1, done.number, 0, 0);
+    Response {
+        session: next,
+        lent,
+        said,
+    }
+}
+
+fn to_status(session: Session, lent: usize, row: usize) -> Response
+    ensures { λ r. ⌜ ((ns : List ℕ) → Answers asks.Status row ns session lent r) ⌝ }
+{
+    let said = status_said(row, status(session));
+    Response {
+        session,
+        lent,
+        said,
+    }
+}
+
+fn to_stretch(session: Session, journal: &[u8], lent: usize, row: usize) -> Response
+    requires { ⌜ lent ≤ length (now journal) ⌝ }
+    ensures { λ r. ⌜ ((ns : List ℕ) → Responds (outcomeIn session (now (journal .entry)) lent asks.Stretch row ns) r (now (journal .entry))) ⌝ }
+{
+    let place = stretch_place(session, lent);
+    let part = stretch(session, &journal[..lent]);
+    let size = part.len();
+    let said = with_bytes(numbered(row, 1, size as u64, 0, 0), place.start, size);
+    Response {
+        session,
+        lent,
+        said,
+    }
+}
+
+fn to_lend(session: Session, journal: &[u8], asking: Asked, numbers: &[u64; 4096]) -> Response
+    ensures { λ r. ⌜ ((lent : ℕ) → Responds (outcomeIn session (now (journal .entry)) lent asks.Lend (asking .row) (take (asking .count) (now (numbers .entry)))) r (now (journal .entry))) ⌝ }
+{
+    let lent = smaller(nth(numbers, asking, 0), journal.len());
+    let said = numbered(asking.row, 1, lent as u64, 0, 0);
+    Response {
+        session,
+        lent,
+        said,
+    }
+}
+
+fn to_restore(journal: &[u8], lent: usize, asking: Asked, numbers: &[u64; 4096]) -> Response
+    ensures { λ r. ⌜ ((s : Session) → Responds (outcomeIn s (now (journal .entry)) lent asks.Restore (asking .row) (take (asking .count) (now (numbers .entry)))) r (now (journal .entry))) ⌝ }
+{
+    let n = smaller(nth(numbers, asking, 0), journal.len());
+    let done = restore(&journal[..n]);
+    let next = done.session;
+    let said = numbered(asking.row, 2, done.number, done.record, 0);
+    Response {
+        session: next,
+        lent,
+        said,
+    }
+}
+
+fn to_poke(
+    session: Session,
+    journal: &mut [u8],
+    lent: usize,
+    asking: Asked,
+    numbers: &[u64; 4096],
+) -> Response
+    ensures { λ r. ⌜ Responds (outcomeIn session (now (journal .entry)) lent asks.Poke (asking .row) (take (asking .count) (now (numbers .entry)))) r (now (journal .exit)) ⌝ }
+{
+    let at = nth(numbers, asking, 0);
+    let byte = (nth(numbers, asking, 1) % 256) as u8;
+    if journal.len() as u64 <= at {
+        return plain(session, lent, NO_FORM);
+    }
+    let place = at as usize;
+    journal[place] = byte;
+    let said = numbered(asking.row, 2, at, byte as u64, 0);
+    Response {
+        session,
+        lent,
+        said,
+    }
+}
+
+fn to_bytes(
+    session: Session,
+    journal: &[u8],
+    lent: usize,
+    asking: Asked,
+    numbers: &[u64; 4096],
+) -> Response
+    ensures { λ r. ⌜ Responds (outcomeIn session (now (journal .entry)) lent asks.Bytes (asking .row) (take (asking .count) (now (numbers .entry)))) r (now (journal .entry)) ⌝ }
+{
+    let from = nth(numbers, asking, 0);
+    let wanted = nth(numbers, asking, 1);
+    let len = journal.len() as u64;
+    if len < wanted {
+        return plain(session, lent, NO_FORM);
+    }
+    if len - wanted < from {
+        return plain(session, lent, NO_FORM);
+    }
+    let said = with_bytes(
+        numbered(asking.row, 0, 0, 0, 0),
+        from as usize,
+        wanted as usize,
+    );
+    Response {
+        session,
+        lent,
+        said,
+    }
+}
+
+fn performed(
+    session: Session,
+    journal: &mut [u8],
+    lent: usize,
+    request: Request,
+    asking: Asked,
+    numbers: &[u64; 4096],
+) -> Response
+    requires { ⌜ lent ≤ length (now journal) ⌝ }
+    ensures { λ r. ⌜ Responds (outcomeIn session (now (journal .entry)) lent request (asking .row) (take (asking .count) (now (numbers .entry)))) r (now (journal .exit)) ⌝ }
+{
+    let row = asking.row;
     match request {
-        Request::Nothing => plain(session, lent, Request::Nothing),
-        Request::Malformed => plain(session, lent, Request::Malformed),
-        Request::Open => opened(session, journal, lent, numbers, count),
-        Request::Offer => offered(session, journal, lent, numbers, count),
-        Request::Ask => asked(session, lent, numbers, count),
-        Request::Back => taken_back(session, journal, lent),
-        Request::Status => told(session, lent),
-        Request::Stretch => stretched(session, journal, lent),
-        Request::Lend => lend(session, journal, numbers, count),
-        Request::Restore => restored(journal, lent, numbers, count),
-        Request::Poke => poked(session, journal, lent, numbers, count),
-        Request::Bytes => shown(session, journal, lent, numbers, count),
+        Request::Nothing => plain(session, lent, row),
+        Request::Malformed => plain(session, lent, row),
+        Request::Open => to_open(session, journal, lent, asking, numbers),
+        Request::Offer => to_offer(session, journal, lent, asking, numbers),
+        Request::Ask => to_ask(session, lent, asking, numbers),
+        Request::Back => to_back(session, journal, lent, row),
+        Request::Status => to_status(session, lent, row),
+        Request::Stretch => to_stretch(session, journal, lent, row),
+        Request::Lend => to_lend(session, journal, asking, numbers),
+        Request::Restore => to_restore(journal, lent, asking, numbers),
+        Request::Poke => to_poke(session, journal, lent, asking, numbers),
+        Request::Bytes => to_bytes(session, journal, lent, asking, numbers),
     }
 }
 
@@ -314,5 +312,7 @@ pub fn respond(
     ensures { λ r. ⌜ Responds (outcome session (now (journal .entry)) lent asking (now (numbers .entry))) r (now (journal .exit)) ⌝ }
 {
     let room = smaller(lent as u64, journal.len());
-    performed(session, journal, room, asking, numbers)
+    let form = form_at(asking.row);
+    let request = form.0;
+    performed(session, journal, room, request, asking, numbers)
 }

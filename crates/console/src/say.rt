@@ -1,23 +1,21 @@
-// The answer to a line: the request's word, numbers behind it, and bytes of the journal.
+// The answer to a line: its row's word, numbers behind it, and bytes of the journal.
 ghost use mathlib.Core.Path.{_≡_};
 ghost use mathlib.Core.List.{[]};
 ghost use Prim.Native.Nat.{min};
 ghost use lib.ListN.{take};
 ghost use Rattle.text.specs.Lines.{IsLine};
 ghost use Rattle.checker.specs.Replies.{knownStatus, statusReplied};
-ghost use Rattle.requests.specs.Forms.{wordOf};
-ghost use Rattle.console.specs.Say.{answerText, answerOf, withBytes, statusNumbers, Tells};
+ghost use Rattle.requests.specs.Forms.{wordAt};
+ghost use Rattle.console.specs.Say.{saidText, saidOf, withBytes, statusNumbers, Tells};
 use checker::answers::Status;
 use checker::answers::StatusAnswer;
-use requests::forms::Request;
 use requests::forms::WORDS;
-use requests::forms::row_of;
 use requests::words::nth_word;
 use text::lines::Line;
 
 // The first `count` numbers are said, and behind them `hex_count` bytes of the journal from a place on.
-pub struct Answer {
-    pub request: Request,
+pub struct Said {
+    pub row: usize,
     pub count: usize,
     pub numbers: [u64; 22],
     pub hex_from: usize,
@@ -27,15 +25,15 @@ pub struct Answer {
 const MOST: usize = 22;
 
 // At most three numbers.
-pub fn numbered(request: Request, count: usize, first: u64, second: u64, third: u64) -> Answer
-    ensures { λ r. ⌜ r ≡ answerOf request count first second third ⌝ }
+pub fn numbered(row: usize, count: usize, first: u64, second: u64, third: u64) -> Said
+    ensures { λ r. ⌜ r ≡ saidOf row count first second third ⌝ }
 {
     let mut numbers = [0u64; 22];
     numbers[0] = first;
     numbers[1] = second;
     numbers[2] = third;
-    Answer {
-        request,
+    Said {
+        row,
         count,
         numbers,
         hex_from: 0,
@@ -44,13 +42,12 @@ pub fn numbered(request: Request, count: usize, first: u64, second: u64, third: 
 }
 
 // The same, with bytes of the journal behind it.
-pub fn with_bytes(said: Answer, from: usize, count: usize) -> Answer
+pub fn with_bytes(said: Said, from: usize, count: usize) -> Said
     ensures { λ r. ⌜ r ≡ withBytes said from count ⌝ }
 {
-    let request = said.request;
     let numbers = said.numbers;
-    Answer {
-        request,
+    Said {
+        row: said.row,
         count: said.count,
         numbers,
         hex_from: from,
@@ -58,8 +55,8 @@ pub fn with_bytes(said: Answer, from: usize, count: usize) -> Answer
     }
 }
 
-fn known(status: Status) -> Answer
-    ensures { λ r. ⌜ Tells Request.Status (statusNumbers (knownStatus status)) r ⌝ }
+fn known(row: usize, status: Status) -> Said
+    ensures { λ r. ⌜ Tells row (statusNumbers (knownStatus status)) r ⌝ }
 {
     let mut numbers = [0u64; 22];
     numbers[1] = status.client as u64;
@@ -69,8 +66,8 @@ fn known(status: Status) -> Answer
     let last = status.last;
     numbers[5] = last.0;
     numbers[6] = status.records;
-    Answer {
-        request: Request::Status,
+    Said {
+        row,
         count: 7,
         numbers,
         hex_from: 0,
@@ -78,12 +75,12 @@ fn known(status: Status) -> Answer
     }
 }
 
-pub fn status_answer(answered: StatusAnswer) -> Answer
-    ensures { λ r. ⌜ Tells Request.Status (statusNumbers (statusReplied answered)) r ⌝ }
+pub fn status_said(row: usize, answered: StatusAnswer) -> Said
+    ensures { λ r. ⌜ Tells row (statusNumbers (statusReplied answered)) r ⌝ }
 {
     match answered {
-        StatusAnswer::Known(status) => known(status),
-        StatusAnswer::NoSession => numbered(Request::Status, 7, 1, 0, 0),
+        StatusAnswer::Known(status) => known(row, status),
+        StatusAnswer::NoSession => numbered(row, 7, 1, 0, 0),
     }
 }
 
@@ -96,24 +93,23 @@ fn least(count: usize) -> usize
     MOST
 }
 
-fn word_line(request: Request) -> Line
-    ensures { λ r. ⌜ IsLine (wordOf request) r ⌝ }
+fn word_line(row: usize) -> Line
+    ensures { λ r. ⌜ IsLine (wordAt row) r ⌝ }
 {
     let words = WORDS;
-    let word = nth_word(&words, row_of(request));
+    let word = nth_word(&words, row);
     let start = word.start;
     let end = word.end;
     Line::empty().put_all(&words[start..end])
 }
 
 // The line of an answer; its bytes stand behind it, after a space.
-pub fn answer_line(said: Answer) -> Line
-    ensures { λ r. ⌜ IsLine (answerText said) r ⌝ }
+pub fn said_line(said: Said) -> Line
+    ensures { λ r. ⌜ IsLine (saidText said) r ⌝ }
 {
-    let request = said.request;
     let numbers = said.numbers;
     let count = least(said.count);
-    let line = word_line(request).put_numbers(&numbers[..count]);
+    let line = word_line(said.row).put_numbers(&numbers[..count]);
     if said.hex_count == 0 {
         return line;
     }

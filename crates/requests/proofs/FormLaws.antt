@@ -1,21 +1,28 @@
 -- Laws of forms.
 use mathlib.Core.Path.{_≡_, refl, sym, _∙_, ap}
 use mathlib.Core.Bool.{true, false, cond}
-use mathlib.Core.List.{List, [], _∷_, _++_, map}
+use mathlib.Core.List.{List, [], _∷_, _++_}
 use Prim.Native.Nat.{ℕ, zero, suc, _-_, _%_, _≤_, _<_}
 use native.Mathlib.Omega.{arith}
 use native.Mathlib.Numerals.{unary-clauses}
 use lib.Dec.{eqb}
-use lib.ListN.{length, getD, replicate, List·getD-eq-default}
+use lib.ListN.{length, getD, replicate}
 use borrow.Author.Tests.{eq-eqb, ne-eqb}
+use Rattle.text.specs.Text.{text}
 use Rattle.requests.specs.declared.forms.Form.{Form}
 use Rattle.requests.specs.declared.forms.Place.{Place}
-use Rattle.requests.specs.declared.forms.Request.the-variants.{Malformed}
-use Rattle.requests.specs.Forms.{formOf, requests, formAt, kind, upTo, byte, places, sizeOf, indexIn, isWhole}
+use Rattle.requests.specs.Words.{frontWord, laterWords, words}
+use Rattle.requests.specs.Forms.{tableWords, kind, upTo, byte, places, sizeOf, indexIn, isWhole}
 
-pub form-behind : (n : ℕ) → 11 ≤ n → formAt n ≡ formAt 0
-unfolding formAt
-form-behind n out = List·getD-eq-default (map formOf requests) (formOf Malformed) {n = n} out
+-- the words of the table as the program has them, in one text
+unfoldable pub joined : List (List ℕ) → List ℕ
+joined [] = []
+joined (w ∷ []) = w
+joined (w ∷ v ∷ ws) = w ++ (32 ∷ joined (v ∷ ws))
+
+pub table-words : words (joined tableWords) ≡ tableWords
+unfolding text frontWord laterWords joined
+table-words = refl
 
 pub form-in : (l : List Form) (n : ℕ) (d e : Form) → n < length l → getD l n d ≡ getD l n e
 form-in [] n d e low = absurd (omega arith)

@@ -19,11 +19,10 @@ use Rattle.requests.specs.declared.forms.Form.{Form}
 use Rattle.requests.specs.declared.requests.Asked.{Asked}
 use Rattle.requests.specs.declared.requests.Count.{Count}
 use Rattle.requests.specs.declared.requests.Count.the-variants.{Numbers, Unread}
-use Rattle.requests.specs.declared.forms.Request.{Request}
-use Rattle.requests.specs.declared.forms.Request.the-variants.{Malformed}
 use Rattle.requests.specs.declared.forms.Place.{Place}
 use Rattle.requests.specs.Words.{frontWord, laterWords, words, indexOf, numberOf}
-use Rattle.requests.specs.Forms.{wordOf, requests, formOf, formAt, placeAt, isWhole}
+use Rattle.requests.specs.Forms.{tableWords, noForm, noLine, formAt, placeAt, isWhole}
+use Rattle.requests.proofs.FormLaws.{joined, table-words}
 use Rattle.requests.specs.Requests.{kinds, kindIndex, within, numberAt, named, Read, these, unread, also, readFrom, filled, IsRead, Fills, Asking, nothing, malformed, askedBy, asked, Asks}
 
 pub within-high : (n most : ℕ) (number : Number) → number ≡ Value n → most < n → NoNumber ≡ within most number
@@ -98,60 +97,57 @@ module _ (p : Place) (word : List ℕ) (number : Number) (is : number ≡ within
     number-kind low = rw (e, index, lt-ltb k 7 low, code-of k low)
 
 -- the row of a word
-row-words : words (text "? open offer ask back status stretch lend restore poke bytes") ≡ map wordOf requests
-unfolding text frontWord laterWords
-row-words = refl
+module _ (inFile : Bool) (word : List ℕ) (n : ℕ) (found : n ≡ indexOf word (words (joined tableWords))) where
+  here : indexOf word tableWords ≡ n
+  here = sym (found ∙ ap (indexOf word) table-words)
 
-module _ (word : List ℕ) (n : ℕ) (f : Form) (found : n ≡ indexOf word (words (text "? open offer ask back status stretch lend restore poke bytes"))) (is : f ≡ formAt n) where
-  here : formAt (indexOf word (map wordOf requests)) ≡ f
-  here = sym (is ∙ ap formAt (found ∙ ap (indexOf word) row-words))
-
-  pub named-memory : (inFile : Bool) → inFile ≡ false → f ≡ named inFile word
+  pub named-none : noLine ≤ n → noForm ≡ named inFile word
   unfolding named
-  named-memory inFile e = rw (e, here)
+  named-none out = rw (here, le-ltb n noLine out)
 
-  pub named-file : (inFile : Bool) → inFile ≡ true → f .7 ≡ true → f ≡ named inFile word
-  unfolding named
-  named-file inFile e stands = rw (e, here, stands)
+  module _ (low : n < noLine) where
+    pub named-memory : inFile ≡ false → n ≡ named inFile word
+    unfolding named
+    named-memory e = rw (here, lt-ltb n noLine low, e)
 
-  pub named-none : (inFile : Bool) → inFile ≡ true → f .7 ≡ false → formAt 0 ≡ named inFile word
-  unfolding named formAt
-  named-none inFile e stands = rw (e, here, stands)
+    pub named-file : inFile ≡ true → (t : Bool) → formAt n .7 ≡ t → cond t n noForm ≡ named inFile word
+    unfolding named
+    named-file e t stands = rw (here, lt-ltb n noLine low, e, stands)
 
 -- the numbers fill a row's places, or not
-module _ (f : Form) (count : Count) where
-  pub fills-unread : (r : Asked) → count ≡ Unread → r ≡ record { request = Malformed; count = 0 } → Fills f count r
+module _ (row : ℕ) (f : Form) (count : Count) where
+  pub fills-unread : (r : Asked) → count ≡ Unread → r ≡ record { row = noForm; count = 0 } → Fills row f count r
   unfolding filled
   fills-unread r e is (these ns) after read = let z : _≡_ {A = ℕ} 0 1 = cc (read .0) in absurd (omega arith)
-  fills-unread r e is unread after read = rw is (record { request = refl; count = refl; numbers = refl })
+  fills-unread r e is unread after read = rw is (record { row = refl; count = refl; numbers = refl })
 
   module _ (n : ℕ) (e : count ≡ Numbers n) where
-    pub fills-not : (r : Asked) → isWhole f n ≡ false → r ≡ record { request = Malformed; count = 0 } → Fills f count r
+    pub fills-not : (r : Asked) → isWhole f n ≡ false → r ≡ record { row = noForm; count = 0 } → Fills row f count r
     unfolding filled
     fills-not r bad is (these ns) after read =
         let size : length ns ≡ n = cc (read .0) in
-        rw (is, size, bad) (record { request = refl; count = refl; numbers = refl })
+        rw (is, size, bad) (record { row = refl; count = refl; numbers = refl })
     fills-not r bad is unread after read = let z : _≡_ {A = ℕ} 0 1 = cc in absurd (omega arith)
 
-    pub fills-whole : isWhole f n ≡ true → Fills f count (record { request = f .0; count = n })
+    pub fills-whole : isWhole f n ≡ true → Fills row f count (record { row = row; count = n })
     unfolding filled
     fills-whole good (these ns) after read =
         let size : length ns ≡ n = cc (read .0) in
-        rw (size, good) (record { request = refl; count = sym size; numbers = rw size at (read .1) })
+        rw (size, good) (record { row = refl; count = sym size; numbers = rw size at (read .1) })
     fills-whole good unread after read = let z : _≡_ {A = ℕ} 0 1 = cc in absurd (omega arith)
 
 -- a line by its first word
-pub none-asked : (q : Request) (a : Asking) (r : Asked) (after : List ℕ) → a ≡ record { request = q; numbers = [] } → r ≡ record { request = q; count = 0 } → Asks a r after
-none-asked q a r after e is = rw (e, is) (record { request = refl; count = refl; numbers = refl })
+pub none-asked : (row : ℕ) (a : Asking) (r : Asked) (after : List ℕ) → a ≡ record { row = row; numbers = [] } → r ≡ record { row = row; count = 0 } → Asks a r after
+none-asked row a r after e is = rw (e, is) (record { row = refl; count = refl; numbers = refl })
 
 module _ (inFile : Bool) (word : List ℕ) (ws : List (List ℕ)) where
   pub comment-is : getD word 0 0 ≡ 35 → askedBy inFile (word ∷ ws) ≡ nothing
   unfolding askedBy
   comment-is e = rw (eq-eqb (getD word 0 0) 35 e)
 
-  pub form-is : (getD word 0 0 ≡ 35 → ⊥) → (f : Form) → f ≡ named inFile word → askedBy inFile (word ∷ ws) ≡ filled f (readFrom f 0 ws)
+  pub form-is : (getD word 0 0 ≡ 35 → ⊥) → (n : ℕ) → n ≡ named inFile word → askedBy inFile (word ∷ ws) ≡ filled n (formAt n) (readFrom (formAt n) 0 ws)
   unfolding askedBy
-  form-is plain f e = rw (ne-eqb (getD word 0 0) 35 plain, ← e)
+  form-is plain n e = rw (ne-eqb (getD word 0 0) 35 plain, ← e)
 
 -- a line by its bytes: none, cut short, too long, and of at most 4,096 with its carriage return
 module _ (inFile : Bool) where

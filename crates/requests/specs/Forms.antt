@@ -2,26 +2,14 @@
 use mathlib.Core.Bool.{Bool, true, false, cond, not, _&&_}
 use mathlib.Core.List.{List, [], _∷_, _++_, map}
 use Prim.Native.Nat.{ℕ, _+_, _%_}
+use Prim.Native.String.{String}
 use lib.Dec.{eqb}
 use lib.ListN.{length, getD, replicate}
 use Rattle.text.specs.Text.{text}
 use Rattle.requests.specs.declared.forms.Form.{Form}
 use Rattle.requests.specs.declared.forms.Place.{Place}
 use Rattle.requests.specs.declared.forms.Request.{Request}
-use Rattle.requests.specs.declared.forms.Request.the-variants.{
-  Nothing,
-  Malformed,
-  Open,
-  Offer,
-  Ask,
-  Back,
-  Status,
-  Stretch,
-  Lend,
-  Restore,
-  Poke,
-  Bytes,
-}
+use Rattle.requests.specs.declared.forms.Request.the-variants as asks
 
 -- a word, and what stands behind it
 pub record Row : Type 0 where
@@ -42,54 +30,47 @@ anywhere = true
 abbrev pub inMemory : Bool
 inMemory = false
 
-abbrev pub row : List ℕ → Request → ℕ → ℕ → ℕ → ℕ → ℕ → Bool → Bool → Row
+abbrev pub row : String → Request → ℕ → ℕ → ℕ → ℕ → ℕ → Bool → Bool → Row
 row word request kinds longs words halves bytes times where′ =
     record {
-      word = word;
+      word = text word;
       form = record { 0 = request; 1 = kinds; 2 = longs; 3 = words; 4 = halves; 5 = bytes; 6 = times; 7 = where′ };
     }
 
 -- THE TABLE: the word; how many kinds stand behind it, and how many numbers of 64, 32, 16 and 8 bits
-abbrev pub rowOf : Request → Row
-rowOf Nothing = row [] Nothing 0 0 0 0 0 once anywhere
-rowOf Malformed = row (text "?") Malformed 0 0 0 0 0 once anywhere
-rowOf Open = row (text "open") Open 0 3 1 20 0 once anywhere
-rowOf Offer = row (text "offer") Offer 1 3 0 0 0 once anywhere
-rowOf Ask = row (text "ask") Ask 1 2 0 0 0 once anywhere
-rowOf Back = row (text "back") Back 0 0 0 0 0 once anywhere
-rowOf Status = row (text "status") Status 0 0 0 0 0 once anywhere
-rowOf Stretch = row (text "stretch") Stretch 0 0 0 0 0 once anywhere
-rowOf Lend = row (text "lend") Lend 0 1 0 0 0 once anywhere
-rowOf Restore = row (text "restore") Restore 0 1 0 0 0 once inMemory
-rowOf Poke = row (text "poke") Poke 0 1 0 0 1 once inMemory
-rowOf Bytes = row (text "bytes") Bytes 0 2 0 0 0 once anywhere
+abbrev pub table : List Row
+table =
+    row "?" asks.Malformed 0 0 0 0 0 once anywhere
+    ∷ row "open" asks.Open 0 3 1 20 0 once anywhere
+    ∷ row "offer" asks.Offer 1 3 0 0 0 once anywhere
+    ∷ row "ask" asks.Ask 1 2 0 0 0 once anywhere
+    ∷ row "back" asks.Back 0 0 0 0 0 once anywhere
+    ∷ row "status" asks.Status 0 0 0 0 0 once anywhere
+    ∷ row "stretch" asks.Stretch 0 0 0 0 0 once anywhere
+    ∷ row "lend" asks.Lend 0 1 0 0 0 once anywhere
+    ∷ row "restore" asks.Restore 0 1 0 0 0 once inMemory
+    ∷ row "poke" asks.Poke 0 1 0 0 1 once inMemory
+    ∷ row "bytes" asks.Bytes 0 2 0 0 0 once anywhere
+    ∷ []
 
-abbrev pub wordOf : Request → List ℕ
-wordOf r = rowOf r .word
+abbrev pub tableWords : List (List ℕ)
+tableWords = map (λ (r : Row). r .word) table
 
-abbrev pub formOf : Request → Form
-formOf r = rowOf r .form
+-- what is no line of the table has the first row, and what asks nothing the place behind the last
+abbrev pub noForm : ℕ
+noForm = 0
 
-abbrev pub requests : List Request
-requests = Malformed ∷ Open ∷ Offer ∷ Ask ∷ Back ∷ Status ∷ Stretch ∷ Lend ∷ Restore ∷ Poke ∷ Bytes ∷ []
+abbrev pub noLine : ℕ
+noLine = length table
 
--- behind the last row all is malformed
+abbrev pub tableForms : List Form
+tableForms = map (λ (r : Row). r .form) table
+
+unfoldable pub wordAt : ℕ → List ℕ
+wordAt n = getD tableWords n []
+
 unfoldable pub formAt : ℕ → Form
-formAt n = getD (map formOf requests) n (formOf Malformed)
-
-abbrev pub rowNumber : Request → ℕ
-rowNumber Malformed = 0
-rowNumber Open = 1
-rowNumber Offer = 2
-rowNumber Ask = 3
-rowNumber Back = 4
-rowNumber Status = 5
-rowNumber Stretch = 6
-rowNumber Lend = 7
-rowNumber Restore = 8
-rowNumber Poke = 9
-rowNumber Bytes = 10
-rowNumber Nothing = 11
+formAt n = getD tableForms n (row "" asks.Nothing 0 0 0 0 0 once anywhere .form)
 
 -- a place: a kind's name or any number of 64 bits; or a number up to a most
 abbrev pub kind : Place

@@ -1,6 +1,6 @@
 -- What a line asks.
 use mathlib.Core.Path.{_≡_}
-use mathlib.Core.Bool.{Bool, cond, not, _&&_}
+use mathlib.Core.Bool.{Bool, cond, not, _&&_, _||_}
 use mathlib.Core.List.{List, [], _∷_, map}
 use Prim.Native.Nat.{ℕ, suc, _-_}
 use lib.Dec.{eqb, leb, ltb}
@@ -13,13 +13,11 @@ use Rattle.requests.specs.declared.words.Number.{Number}
 use Rattle.requests.specs.declared.words.Number.the-variants.{Value, NoNumber}
 use Rattle.requests.specs.declared.forms.Form.{Form}
 use Rattle.requests.specs.declared.forms.Place.{Place}
-use Rattle.requests.specs.declared.forms.Request.{Request}
-use Rattle.requests.specs.declared.forms.Request.the-variants.{Nothing, Malformed}
 use Rattle.requests.specs.declared.requests.Asked.{Asked}
 use Rattle.requests.specs.declared.requests.Count.{Count}
 use Rattle.requests.specs.declared.requests.Count.the-variants.{Numbers, Unread}
 use Rattle.requests.specs.Words.{words, indexOf, numberOf}
-use Rattle.requests.specs.Forms.{wordOf, formOf, requests, formAt, placeAt, isWhole}
+use Rattle.requests.specs.Forms.{tableWords, noForm, noLine, formAt, placeAt, isWhole}
 
 -- a kind's name in capitals stands for its code number
 abbrev pub kinds : List CommandKind
@@ -55,28 +53,28 @@ readFrom f i (w ∷ ws) = also (numberAt (placeAt f i) w) (readFrom f (suc i) ws
 
 -- WHAT IS ASKED: a row of the table, and numbers
 pub record Asking : Type 0 where
-  pub request : Request
+  pub row : ℕ
   pub numbers : List ℕ
 
 abbrev pub nothing : Asking
-nothing = record { request = Nothing; numbers = [] }
+nothing = record { row = noLine; numbers = [] }
 
 abbrev pub malformed : Asking
-malformed = record { request = Malformed; numbers = [] }
+malformed = record { row = noForm; numbers = [] }
 
 -- the row of a first word; a row that is for memory only is malformed where the journal is a file
-unfoldable pub named : Bool → List ℕ → Form
-named inFile word = let f = formAt (indexOf word (map wordOf requests)) in cond (inFile && not (f .7)) (formOf Malformed) f
+unfoldable pub named : Bool → List ℕ → ℕ
+named inFile word = let n = indexOf word tableWords in cond (ltb n noLine && (not inFile || formAt n .7)) n noForm
 
 -- the numbers fill the row's places, or the line is malformed
-unfoldable pub filled : Form → Read → Asking
-filled f (these ns) = cond (isWhole f (length ns)) (record { request = f .0; numbers = ns }) malformed
-filled f unread = malformed
+unfoldable pub filled : ℕ → Form → Read → Asking
+filled n f (these ns) = cond (isWhole f (length ns)) (record { row = n; numbers = ns }) malformed
+filled n f unread = malformed
 
 -- no word, or a first word that begins with `#`, asks nothing
 unfoldable pub askedBy : Bool → List (List ℕ) → Asking
 askedBy inFile [] = nothing
-askedBy inFile (word ∷ ws) = let f = named inFile word in cond (eqb (getD word 0 0) 35) nothing (filled f (readFrom f 0 ws))
+askedBy inFile (word ∷ ws) = let n = named inFile word in let f = formAt n in cond (eqb (getD word 0 0) 35) nothing (filled n f (readFrom f 0 ws))
 
 -- a carriage return right before a newline is ignored
 abbrev pub withoutReturn : List ℕ → List ℕ
@@ -95,16 +93,16 @@ cutShort (b ∷ bs) = malformed
 unfoldable pub asked : List ℕ → Bool → Bool → Asking
 asked line ended inFile = cond ended (whole line inFile) (cutShort line)
 
--- the program's answer: the request, and its numbers at the front of the array that was lent
+-- the program's answer: the row, and its numbers at the front of the array that was lent
 abbrev pub IsRead : Read → Count → List ℕ → Type 0
 IsRead (these ns) r after = (r ≡ Numbers (length ns)) × (take (length ns) after ≡ ns)
 IsRead unread r after = r ≡ Unread
 
 pub record Asks (a : Asking) (r : Asked) (after : List ℕ) : Type 0 where
-  pub request : r .request ≡ a .request
+  pub row : r .row ≡ a .row
   pub count : r .count ≡ length (a .numbers)
   pub numbers : take (r .count) after ≡ a .numbers
 
 -- whatever was read
-abbrev pub Fills : Form → Count → Asked → Type 0
-Fills f count r = (read : Read) (after : List ℕ) → IsRead read count after → Asks (filled f read) r after
+abbrev pub Fills : ℕ → Form → Count → Asked → Type 0
+Fills n f count r = (read : Read) (after : List ℕ) → IsRead read count after → Asks (filled n f read) r after

@@ -8,6 +8,8 @@ use lib.ListN.{length, take, drop}
 use Rattle.requests.specs.declared.words.Word.{Word}
 use Rattle.requests.specs.declared.words.Number.{Number}
 use Rattle.requests.specs.declared.words.Number.the-variants.{Value, NoNumber}
+use Rattle.requests.specs.declared.words.Over.{Over}
+use Rattle.requests.specs.declared.words.Over.the-variants as over
 use Rattle.requests.specs.Places.{past}
 
 -- a space or a tab
@@ -16,6 +18,14 @@ isBlank b = eqb b 32 || eqb b 9
 
 abbrev pub inWord : ℕ → Bool
 inWord b = not (isBlank b)
+
+abbrev pub inLine : ℕ → Bool
+inLine b = not (eqb b 10)
+
+abbrev pub goesOn : Over → ℕ → Bool
+goesOn over.Blanks = isBlank
+goesOn over.Word = inWord
+goesOn over.Line = inLine
 
 -- a word before others, if it is one
 abbrev pub before : List ℕ → List (List ℕ) → List (List ℕ)

@@ -1,7 +1,7 @@
 // The table of forms. A form is a row: a word, and what stands behind it.
 ghost use mathlib.Core.Path.{_≡_};
 ghost use lib.ListN.{getD};
-ghost use Rattle.requests.specs.Forms.{formAt, sizeOf, indexIn, placeAt, upTo, byte, places, isWhole, rowNumber};
+ghost use Rattle.requests.specs.Forms.{formAt, sizeOf, indexIn, placeAt, upTo, byte, places, isWhole};
 
 // What a line asks: a row of the table, nothing (a blank line or a comment), or what is no line of the table.
 pub enum Request {
@@ -41,7 +41,7 @@ pub struct Place {
 // The words of the table, in its order.
 pub const WORDS: [u8; 60] = *b"? open offer ask back status stretch lend restore poke bytes";
 
-const FORMS: [Form; 11] = [
+const FORMS: [Form; ROWS] = [
     Form(Request::Malformed, 0, 0, 0, 0, 0, false, true),
     Form(Request::Open, 0, 3, 1, 20, 0, false, true),
     Form(Request::Offer, 1, 3, 0, 0, 0, false, true),
@@ -55,33 +55,15 @@ const FORMS: [Form; 11] = [
     Form(Request::Bytes, 0, 2, 0, 0, 0, false, true),
 ];
 
-// The row's number; nothing stands behind the last row.
-pub fn row_of(request: Request) -> usize
-    ensures { λ r. ⌜ r ≡ rowNumber request ⌝ }
-{
-    match request {
-        Request::Malformed => 0,
-        Request::Open => 1,
-        Request::Offer => 2,
-        Request::Ask => 3,
-        Request::Back => 4,
-        Request::Status => 5,
-        Request::Stretch => 6,
-        Request::Lend => 7,
-        Request::Restore => 8,
-        Request::Poke => 9,
-        Request::Bytes => 10,
-        Request::Nothing => 11,
-    }
-}
+pub const ROWS: usize = 11;
 
-// The form of a row; behind the last row all is malformed.
+// The form of a row; what asks nothing has the place behind the last.
 pub fn form_at(row: usize) -> Form
     ensures { λ r. ⌜ r ≡ formAt row ⌝ }
 {
     let forms = FORMS;
-    if 11 <= row {
-        return forms[0];
+    if ROWS <= row {
+        return Form(Request::Nothing, 0, 0, 0, 0, 0, false, true);
     }
     forms[row]
 }

@@ -3,10 +3,11 @@ ghost use mathlib.Core.Path.{_≡_};
 ghost use Prim.Native.Nat.{_≤_};
 ghost use lib.ListN.{length, drop};
 ghost use Rattle.requests.specs.Words.{words};
+ghost use Rattle.requests.specs.Forms.{noForm, noLine};
 ghost use Rattle.requests.specs.Requests.{within, numberAt, readFrom, IsRead, named, Fills, askedBy, asked, Asks};
 use crate::forms::Form;
 use crate::forms::Place;
-use crate::forms::Request;
+use crate::forms::ROWS;
 use crate::forms::WORDS;
 use crate::forms::form_at;
 use crate::forms::is_whole;
@@ -16,9 +17,9 @@ use crate::words::index_of;
 use crate::words::next_word;
 use crate::words::number_of;
 
-// A request; its numbers stand at the front of the array that was lent.
+// A row of the table; its numbers stand at the front of the array that was lent.
 pub struct Asked {
-    pub request: Request,
+    pub row: usize,
     pub count: usize,
 }
 
@@ -27,6 +28,8 @@ enum Count {
     Numbers(usize),
     Unread,
 }
+
+pub const NO_FORM: usize = 0;
 
 const MAX_LINE: usize = 4096;
 
@@ -89,39 +92,42 @@ fn read_numbers(line: &[u8], from: usize, form: Form, numbers: &mut [u64]) -> Co
 }
 
 fn nothing() -> Asked
-    ensures { λ r. ⌜ r ≡ record { request = Request.Nothing; count = 0 } ⌝ }
+    ensures { λ r. ⌜ r ≡ record { row = noLine; count = 0 } ⌝ }
 {
     Asked {
-        request: Request::Nothing,
+        row: ROWS,
         count: 0,
     }
 }
 
 fn malformed() -> Asked
-    ensures { λ r. ⌜ r ≡ record { request = Request.Malformed; count = 0 } ⌝ }
+    ensures { λ r. ⌜ r ≡ record { row = noForm; count = 0 } ⌝ }
 {
     Asked {
-        request: Request::Malformed,
+        row: NO_FORM,
         count: 0,
     }
 }
 
 // The row of a first word; in a file a row may be malformed.
-fn named(word: &[u8], in_file: bool) -> Form
+fn named(word: &[u8], in_file: bool) -> usize
     ensures { λ r. ⌜ r ≡ named «in_file» (now (word .entry)) ⌝ }
 {
-    let form = form_at(index_of(&WORDS, word));
+    let row = index_of(&WORDS, word);
+    if ROWS <= row {
+        return NO_FORM;
+    }
     if !in_file {
-        return form;
+        return row;
     }
-    if form.7 {
-        return form;
+    if form_at(row).7 {
+        return row;
     }
-    form_at(0)
+    NO_FORM
 }
 
-fn filled(form: Form, count: Count) -> Asked
-    ensures { λ r. ⌜ Fills form count r ⌝ }
+fn filled(row: usize, form: Form, count: Count) -> Asked
+    ensures { λ r. ⌜ Fills row form count r ⌝ }
 {
     let Count::Numbers(n) = count else {
         return malformed();
@@ -129,8 +135,7 @@ fn filled(form: Form, count: Count) -> Asked
     if !is_whole(form, n) {
         return malformed();
     }
-    let request = form.0;
-    Asked { request, count: n }
+    Asked { row, count: n }
 }
 
 fn parse(line: &[u8], in_file: bool, numbers: &mut [u64]) -> Asked
@@ -146,9 +151,10 @@ fn parse(line: &[u8], in_file: bool, numbers: &mut [u64]) -> Asked
     if line[start] == COMMENT {
         return nothing();
     }
-    let form = named(&line[start..end], in_file);
+    let row = named(&line[start..end], in_file);
+    let form = form_at(row);
     let count = read_numbers(line, end, form, numbers);
-    filled(form, count)
+    filled(row, form, count)
 }
 
 // A line as it came. What no newline ended was cut short. A carriage return counts for a line's length, and is ignored at its end. Where

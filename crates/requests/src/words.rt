@@ -5,7 +5,7 @@ ghost use mathlib.Core.List.{[]};
 ghost use lib.ListN.{getD};
 ghost use Prim.Native.Nat.{_-_};
 ghost use Rattle.requests.specs.Places.{past};
-ghost use Rattle.requests.specs.Words.{isBlank, inWord, words, indexOf, IsWord, wordAt, sameWord, isDigit, numberOf};
+ghost use Rattle.requests.specs.Words.{isBlank, goesOn, words, indexOf, IsWord, wordAt, sameWord, isDigit, numberOf};
 
 // A word's place in its line. An empty one stands where no word is left.
 pub struct Word {
@@ -18,11 +18,20 @@ pub enum Number {
     NoNumber,
 }
 
+// What a scan goes over: blanks, the bytes of a word, or those of a line.
+pub enum Over {
+    Blanks,
+    Word,
+    Line,
+}
+
 const SPACE: u8 = 32;
 
 const TAB: u8 = 9;
 
-pub fn is_blank(byte: u8) -> bool
+const NEWLINE: u8 = 10;
+
+fn is_blank(byte: u8) -> bool
     ensures { λ r. ⌜ r ≡ isBlank byte ⌝ }
 {
     if byte == SPACE {
@@ -44,37 +53,35 @@ fn digit_value(byte: u8) -> u64
     (byte - 48) as u64
 }
 
-fn skip_blanks(line: &[u8], from: usize) -> usize
-    ensures { λ r. ⌜ r ≡ past isBlank (now (line .entry)) from ⌝ }
+fn goes_on(over: Over, byte: u8) -> bool
+    ensures { λ r. ⌜ r ≡ goesOn over byte ⌝ }
 {
-    let mut i = from;
-    while i < line.len() {
-        if !is_blank(line[i]) {
-            return i;
-        }
-        i += 1;
+    match over {
+        Over::Blanks => is_blank(byte),
+        Over::Word => !is_blank(byte),
+        Over::Line => byte != NEWLINE,
     }
-    line.len()
 }
 
-fn word_end(line: &[u8], from: usize) -> usize
-    ensures { λ r. ⌜ r ≡ past inWord (now (line .entry)) from ⌝ }
+// The place of the first byte from a place on that is something else, or the end.
+pub fn past(bytes: &[u8], from: usize, over: Over) -> usize
+    ensures { λ r. ⌜ r ≡ past (goesOn over) (now (bytes .entry)) from ⌝ }
 {
     let mut i = from;
-    while i < line.len() {
-        if is_blank(line[i]) {
+    while i < bytes.len() {
+        if !goes_on(over, bytes[i]) {
             return i;
         }
         i += 1;
     }
-    line.len()
+    bytes.len()
 }
 
 pub fn next_word(line: &[u8], from: usize) -> Word
     ensures { λ r. ⌜ r ≡ wordAt (now (line .entry)) from ⌝ }
 {
-    let start = skip_blanks(line, from);
-    let end = word_end(line, start);
+    let start = past(line, from, Over::Blanks);
+    let end = past(line, start, Over::Word);
     Word { start, end }
 }
 

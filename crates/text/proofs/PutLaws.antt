@@ -21,10 +21,14 @@ module _ (xs : List ℕ) (at : ℕ) (before : List ℕ) where
   pub put-paste : (s after : List ℕ) (n behind : ℕ) → xs ≡ take n s → length xs ≡ n → at + n ≤ length before → after ≡ paste before at s n → behind ≡ at + n → Put xs at before after behind
   put-paste s after n behind e size room is place = put-here after behind (omega arith) (is ∙ rw (size, e)) (omega arith)
 
+-- more than there is, is all of it
+pub take-min : (l : List ℕ) (n most len : ℕ) → length l ≡ most → len ≡ min n most → take n l ≡ take len l
+take-min l n most len size e = go (leb n most) refl
+  where
+    go : (t : Bool) → leb n most ≡ t → take n l ≡ take len l
+    go true f = let same : n ≡ len = omega (arith, leb-true n most f) in rw same
+    go false f = take-all n l (omega (arith, leb-false n most f)) ∙ sym (take-all len l (omega (arith, leb-false n most f)))
+
 -- a line shows at most the 512 bytes that it has
 pub shown-first : (bytes : List ℕ) (n len : ℕ) → length bytes ≡ 512 → len ≡ min n 512 → (take n bytes ≡ take len bytes) × (length (take n bytes) ≡ len)
-shown-first bytes n len size e = (go (leb n 512) refl, simp length-take (omega arith))
-  where
-    go : (t : Bool) → leb n 512 ≡ t → take n bytes ≡ take len bytes
-    go true f = let same : n ≡ len = omega (arith, leb-true n 512 f) in rw same
-    go false f = take-all n bytes (omega (arith, leb-false n 512 f)) ∙ sym (take-all len bytes (omega (arith, leb-false n 512 f)))
+shown-first bytes n len size e = (take-min bytes n 512 len size e, simp length-take (omega arith))

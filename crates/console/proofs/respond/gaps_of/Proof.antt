@@ -11,10 +11,10 @@ use Rattle.console.proofs.respond.gaps_of.Statement.{statement}
 use Rattle.console.proofs.respond.gaps_of.Tie as tie
 
 abbrev Inv-loop : tie.InvT-loop
-Inv-loop numbers count gaps₀ i₀ gaps i = (i ≤ 20) × (length gaps ≡ 20) × (take i gaps ≡ gapsFrom i 4 (take count numbers))
+Inv-loop numbers asking gaps₀ i₀ gaps i = (i ≤ 20) × (length gaps ≡ 20) × (take i gaps ≡ gapsFrom i 4 (take (asking .count) numbers))
 
 abbrev μ-loop : tie.MeasureT-loop
-μ-loop numbers count gaps₀ i₀ gaps i = 20 - i
+μ-loop numbers asking gaps₀ i₀ gaps i = 20 - i
 
 loop-holds : tie.Need-loop-holds Inv-loop μ-loop
 unfolding gapsFrom

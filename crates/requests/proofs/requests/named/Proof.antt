@@ -1,32 +1,41 @@
 -- `named` meets its contract.
-use mathlib.Core.Path.{_∙_}
+use mathlib.Core.Path.{sym, _∙_, ap}
+use mathlib.Core.Bool.{true, false}
 use borrow.Author.Tests.{not-true, not-false}
 use Rattle.text.specs.Text.{text}
-use Rattle.requests.proofs.RequestLaws.{named-memory, named-file, named-none}
+use Rattle.requests.specs.declared.forms.Form.{Form}
+use Rattle.requests.proofs.FormLaws.{joined}
+use Rattle.requests.proofs.RequestLaws.{named-none, named-memory, named-file}
 use borrow.Author.Needs.{needs}
 use Rattle.requests.proofs.requests.named.Statement.{statement}
 use Rattle.requests.proofs.requests.named.Tie as tie
 
 returns : tie.Need-returns
-unfolding text
+unfolding text joined
 returns c =
-    let f = c .before in
-    let a = f .before .before .before .before .args in
-    named-memory (a .word .now) _ (f .form-at .result) (f .before .index-of .ensures) (f .form-at .ensures) (a .in-file) (not-true _ (c .if1 .taken))
+    let a = c .before .before .before .before .args in
+    named-none (a .in-file) (a .word .now) _ (c .before .index-of .ensures) (c .if1 .taken)
 
 returns-2 : tie.Need-returns-2
-unfolding text
+unfolding text joined
 returns-2 c =
-    let f = c .before .before in
-    let a = f .before .before .before .before .args in
-    named-file (a .word .now) _ (f .form-at .result) (f .before .index-of .ensures) (f .form-at .ensures) (a .in-file) (not-false _ (c .before .if1 .left)) (c .if2 .taken)
+    let i = c .before in
+    let a = i .before .before .before .before .args in
+    named-memory (a .in-file) (a .word .now) _ (i .before .index-of .ensures) (i .if1 .left) (not-true _ (c .if2 .taken))
 
 returns-3 : tie.Need-returns-3
-unfolding text
+unfolding text joined
 returns-3 c =
-    let f = c .before .before .before in
-    let a = f .before .before .before .before .args in
-    c .form-at2 .ensures ∙ named-none (a .word .now) _ (f .form-at .result) (f .before .index-of .ensures) (f .form-at .ensures) (a .in-file) (not-false _ (c .before .before .if1 .left)) (c .before .if2 .left)
+    let i = c .before .before .before in
+    let a = i .before .before .before .before .args in
+    named-file (a .in-file) (a .word .now) _ (i .before .index-of .ensures) (i .if1 .left) (not-false _ (c .before .before .if2 .left)) true (ap (λ (f : Form). f .7) (sym (c .before .form-at .ensures)) ∙ c .if3 .taken)
+
+returns-4 : tie.Need-returns-4
+unfolding text joined
+returns-4 c =
+    let i = c .before .before .before in
+    let a = i .before .before .before .before .args in
+    named-file (a .in-file) (a .word .now) _ (i .before .index-of .ensures) (i .if1 .left) (not-false _ (c .before .before .if2 .left)) false (ap (λ (f : Form). f .7) (sym (c .before .form-at .ensures)) ∙ c .if3 .left)
 
 pub named-spec : {M : Type 1} → statement M
-named-spec = tie.close (tie.spec (λ c. search needs) (λ c κs. search needs) (λ c κs. search needs) returns returns-2 (λ c κs. search needs) returns-3)
+named-spec = tie.close (tie.spec (λ c. search needs) (λ c κs. search needs) returns returns-2 (λ c κs. search needs) returns-3 returns-4)

@@ -40,18 +40,20 @@ part-named-end c =
 returns-3 : tie.Need-returns-3
 returns-3 c =
     let r = c .before .before .before in
-    let n = r .before .before in
+    let g = r .before .before in
+    let n = g .before in
     let i = n .before .before in
     let d = i .before .before in
     let w = d .before .next-word in
     let a = d .before .before .before .before .args in
     let line = a .line .now in
-    let f = n .named .result in
-    rw (ap (askedBy (a .in-file)) (next-cons line 0 (w .result) (w .ensures) (d .if1 .left)) ∙ form-is (a .in-file) (wordBytes line 0 (w .result) (w .ensures)) (words (drop (w .result .end) line)) (λ e. i .if2 .left (sym (word-first line 0 (w .result) (w .ensures) (d .if1 .left)) ∙ e)) f (n .named .ensures))
-    (c .filled .ensures (readFrom f 0 (words (drop (w .result .end) line))) _ (r .read-numbers .ensures))
+    let row = n .named .result in
+    let rest = words (drop (w .result .end) line) in
+    rw (ap (askedBy (a .in-file)) (next-cons line 0 (w .result) (w .ensures) (d .if1 .left)) ∙ form-is (a .in-file) (wordBytes line 0 (w .result) (w .ensures)) rest (λ e. i .if2 .left (sym (word-first line 0 (w .result) (w .ensures) (d .if1 .left)) ∙ e)) row (n .named .ensures))
+    (rw (← g .form-at .ensures) (c .filled .ensures (readFrom (g .form-at .result) 0 rest) _ (r .read-numbers .ensures)))
 
 pub parse-spec : {M : Type 1} → statement M
 parse-spec =
     tie.close
     (tie.spec (λ c κs. search needs) (λ c κs. search needs) returns shared-slice-read-if2 (λ c κs. search needs) returns-2 (λ c. search needs)
-    (λ c. search needs) part-named-end (λ c κs. search needs) (λ c κs. search needs) (λ c κs. search needs) (λ c. search needs) returns-3)
+    (λ c. search needs) part-named-end (λ c κs. search needs) (λ c κs. search needs) (λ c κs. search needs) (λ c κs. search needs) (λ c. search needs) returns-3)

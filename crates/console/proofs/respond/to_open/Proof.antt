@@ -1,16 +1,15 @@
--- `opened` meets its contract.
+-- `to_open` meets its contract.
 use mathlib.Core.Path.{refl}
 use lib.ListN.{length, take}
 use Rattle.history.specs.Answers.{roomOf}
 use Rattle.statements.specs.Exact.{openIn}
-use Rattle.requests.specs.declared.forms.Request.the-variants.{Open}
 use Rattle.requests.proofs.SliceLaws.{front-size}
 use Rattle.console.specs.Say.{brief}
 use Rattle.console.specs.Respond.{settingsOf, outcomeIn}
 use Rattle.console.proofs.RespondLaws.{called-is}
 use borrow.Author.Needs.{needs}
-use Rattle.console.proofs.respond.opened.Statement.{statement}
-use Rattle.console.proofs.respond.opened.Tie as tie
+use Rattle.console.proofs.respond.to_open.Statement.{statement}
+use Rattle.console.proofs.respond.to_open.Tie as tie
 
 slice-aggregate-open-session : tie.Need-slice-aggregate-open-session
 slice-aggregate-open-session c =
@@ -26,10 +25,10 @@ returns c =
     let a = n .before .before .before .before .before .args in
     let j = a .journal .now in
     rw (← n .before .before .before .nth .ensures, ← n .before .before .nth2 .ensures, ← n .before .nth3 .ensures, ← n .nth4 .ensures, ← g .gaps-of .ensures)
-    (called-is Open 1 _ 0 0 (c .numbered .result) (c .numbered .ensures) brief _ (a .session) _ (a .lent) j _ _ (o .open-session .ensures .exact) refl)
+    (called-is (a .asking .row) 1 _ 0 0 (c .numbered .result) (c .numbered .ensures) brief _ (a .session) _ (a .lent) j _ _ (o .open-session .ensures .exact) refl)
 
-pub opened-spec : {M : Type 1} → statement M
-opened-spec =
+pub to-open-spec : {M : Type 1} → statement M
+to-open-spec =
     tie.close
     (tie.spec (λ c κs. search needs) (λ c κs. search needs) (λ c κs. search needs) (λ c κs. search needs) (λ c. search needs) (λ c κs. search needs)
     (λ c. search needs) slice-aggregate-open-session (λ c κs. search needs) (λ c κs. search needs) (λ c. search needs) returns)

@@ -1,16 +1,15 @@
--- `offered` meets its contract.
+-- `to_offer` meets its contract.
 use mathlib.Core.Path.{refl}
 use lib.ListN.{length, take}
 use Rattle.history.specs.Answers.{roomOf}
 use Rattle.statements.specs.Exact.{offerIn}
-use Rattle.requests.specs.declared.forms.Request.the-variants.{Offer}
 use Rattle.requests.proofs.SliceLaws.{front-size}
 use Rattle.console.specs.Say.{full}
 use Rattle.console.specs.Respond.{outcomeIn}
 use Rattle.console.proofs.RespondLaws.{called-is}
 use borrow.Author.Needs.{needs}
-use Rattle.console.proofs.respond.offered.Statement.{statement}
-use Rattle.console.proofs.respond.offered.Tie as tie
+use Rattle.console.proofs.respond.to_offer.Statement.{statement}
+use Rattle.console.proofs.respond.to_offer.Tie as tie
 
 slice-aggregate-offer : tie.Need-slice-aggregate-offer
 slice-aggregate-offer c =
@@ -25,10 +24,10 @@ returns c =
     let a = n .before .before .before .before .before .args in
     let j = a .journal .now in
     rw (← n .before .before .before .nth .ensures, ← n .before .before .nth2 .ensures, ← n .before .nth3 .ensures, ← n .nth4 .ensures)
-    (called-is Offer 3 _ _ _ (c .numbered .result) (c .numbered .ensures) full (offerIn (roomOf (length (take (a .lent) j))) (a .session) (n .before .before .before .nth .result) (n .before .before .nth2 .result) (n .before .nth3 .result) (n .nth4 .result)) (a .session) _ (a .lent) j _ _ (o .offer .ensures .exact) refl)
+    (called-is (a .asking .row) 3 _ _ _ (c .numbered .result) (c .numbered .ensures) full (offerIn (roomOf (length (take (a .lent) j))) (a .session) (n .before .before .before .nth .result) (n .before .before .nth2 .result) (n .before .nth3 .result) (n .nth4 .result)) (a .session) _ (a .lent) j _ _ (o .offer .ensures .exact) refl)
 
-pub offered-spec : {M : Type 1} → statement M
-offered-spec =
+pub to-offer-spec : {M : Type 1} → statement M
+to-offer-spec =
     tie.close
     (tie.spec (λ c κs. search needs) (λ c κs. search needs) (λ c κs. search needs) (λ c κs. search needs) (λ c. search needs) slice-aggregate-offer
     (λ c κs. search needs) (λ c κs. search needs) (λ c. search needs) returns)

@@ -1,12 +1,12 @@
--- `status_answer` meets its contract.
+-- `status_said` meets its contract.
 use mathlib.Core.Path.{refl}
 use Rattle.checker.specs.Replies.{statusReplied}
 use borrow.Author.Needs.{needs}
-use Rattle.console.proofs.say.status_answer.Statement.{statement}
-use Rattle.console.proofs.say.status_answer.Tie as tie
+use Rattle.console.proofs.say.status_said.Statement.{statement}
+use Rattle.console.proofs.say.status_said.Tie as tie
 
-pub status-answer-spec : {M : Type 1} → statement M
-status-answer-spec =
+pub status-said-spec : {M : Type 1} → statement M
+status-said-spec =
     tie.close
     (tie.spec (λ c. search needs) (λ c κs. search needs) (λ c. search needs) (λ c κs. search needs)
     (λ c. rw (c .before .before .answered .given .1) (c .known .ensures))

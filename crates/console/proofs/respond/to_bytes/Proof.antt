@@ -1,14 +1,13 @@
--- `shown` meets its contract.
+-- `to_bytes` meets its contract.
 use Prim.Native.Nat.{_+_}
 use native.Mathlib.Omega.{arith}
 use borrow.Author.Tests.{lt-leb, le-leb}
 use lib.ListN.{length}
-use Rattle.requests.specs.declared.forms.Request.the-variants as asks
 use Rattle.console.specs.Respond.{outcomeIn}
 use Rattle.console.proofs.RespondLaws.{prints-is}
 use borrow.Author.Needs.{needs}
-use Rattle.console.proofs.respond.shown.Statement.{statement}
-use Rattle.console.proofs.respond.shown.Tie as tie
+use Rattle.console.proofs.respond.to_bytes.Statement.{statement}
+use Rattle.console.proofs.respond.to_bytes.Tie as tie
 
 returns : tie.Need-returns
 unfolding outcomeIn
@@ -31,10 +30,10 @@ returns-3 c =
     let n = i .before .before in
     let a = n .before .before .before .args in
     rw (← n .before .nth .ensures, ← n .nth2 .ensures, le-leb (n .before .nth .result + n .nth2 .result) (length (a .journal .now)) (omega (arith, i .if2 .left, i .before .if1 .left)))
-    (prints-is asks.Bytes 0 0 0 0 (c .before .numbered .result) (c .before .numbered .ensures) (c .with-bytes .result) (a .session) (a .lent) _ _ (a .journal .now) (c .with-bytes .ensures) (omega (arith, i .if2 .left, i .before .if1 .left)))
+    (prints-is (a .asking .row) 0 0 0 0 (c .before .numbered .result) (c .before .numbered .ensures) (c .with-bytes .result) (a .session) (a .lent) _ _ (a .journal .now) (c .with-bytes .ensures) (omega (arith, i .if2 .left, i .before .if1 .left)))
 
-pub shown-spec : {M : Type 1} → statement M
-shown-spec =
+pub to-bytes-spec : {M : Type 1} → statement M
+to-bytes-spec =
     tie.close
     (tie.spec (λ c κs. search needs) (λ c κs. search needs) (λ c κs. search needs) returns (λ c κs. search needs) returns-2 (λ c κs. search needs)
     (λ c κs. search needs) returns-3)
