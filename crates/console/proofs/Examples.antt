@@ -21,22 +21,11 @@ too-early : lineText (of "offer") (full (record { number = 7; cycle = 120; gap =
 unfolding meaning
 too-early = refl
 
-no-stretch : lineText (of "stretch") (0 ∷ []) 0 ≡ text "stretch 0"
-unfolding meaning
-no-stretch = refl
-
-bytes-before : lineText (of "bytes") [] 2 ≡ text "bytes "
-unfolding meaning
-bytes-before = refl
-
 bytes-shown : hexText (0 ∷ 175 ∷ []) ≡ text "00af"
 unfolding meaning
 bytes-shown = refl
 
-no-form : lineText noForm [] 0 ≡ text "?"
+-- a word with one number, with none before bytes, alone, and no word
+words-said : (lineText (of "stretch") (0 ∷ []) 0 ≡ text "stretch 0") × (lineText (of "bytes") [] 2 ≡ text "bytes ") × (lineText noForm [] 0 ≡ text "?") × (lineText noLine [] 0 ≡ [])
 unfolding meaning
-no-form = refl
-
-nothing-said : lineText noLine [] 0 ≡ []
-unfolding meaning
-nothing-said = refl
+words-said = (refl, refl, refl, refl)

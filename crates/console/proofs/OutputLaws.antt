@@ -8,7 +8,7 @@ use native.Mathlib.Omega.{arith}
 use lib.Dec.{leb}
 use lib.ListN.{length, take, drop, getD, set, length-take, length-drop}
 use lib.Seq.{take-all, set-split, append-snoc, getD-take, getD-drop, getD-append-add, length-take-le, paste, paste-suc}
-use borrow.Author.Tests.{leb-true, leb-false, le-leb, lt-leb}
+use borrow.Author.Tests.{le-leb, lt-leb}
 use Rattle.journal.specs.Restore.{putAt}
 use Rattle.console.specs.Output.{hexDigit, hexText, underWay}
 

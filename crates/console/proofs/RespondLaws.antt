@@ -1,5 +1,5 @@
 -- Laws of responses.
-use mathlib.Core.Path.{_≡_, refl, sym, _∙_, ap, subst}
+use mathlib.Core.Path.{_≡_, refl, sym, _∙_, ap}
 use mathlib.Core.List.{List, [], _∷_, _++_}
 use Prim.Native.Nat.{ℕ, zero, suc, _+_, _%_, _≤_, _<_}
 use native.Mathlib.Numerals.{add-one}
@@ -35,18 +35,7 @@ module _ (row : ℕ) (count a b c : ℕ) (said : Said) (e : said ≡ saidOf row 
   -- a call's, which saw the first bytes of the journal
   pub called-is : (numbers : Reply → List ℕ) (v : Verdict) (before next : Session) (lent : ℕ) (j : List ℕ) (reply : Reply) (bytes : List ℕ) → Left v before (take lent j) reply next bytes → numbersOf count a b c ≡ numbers reply
       → Responds (called row numbers v before lent j) (responseOf next lent said) (bytes ++ drop lent j)
-  called-is numbers v before next lent j reply bytes left is =
-      rw e
-      (record {
-        row = refl;
-        numbers = is ∙ ap numbers (left .answer);
-        place = refl;
-        count = refl;
-        printed = refl;
-        state = left .state;
-        lent = refl;
-        journal = ap (λ (z : List ℕ). z ++ drop lent j) (left .written);
-      })
+  called-is numbers v before next lent j reply bytes left is = rw (← left .answer, ← left .state, ← left .written, ← is) (says-is next lent (bytes ++ drop lent j))
 
   -- with the journal's bytes behind them
   pub prints-is : (told : Said) (s : Session) (lent from size : ℕ) (j : List ℕ) → told ≡ withBytes said from size → from + size ≤ length j
@@ -57,18 +46,7 @@ module _ (row : ℕ) (count a b c : ℕ) (said : Said) (e : said ≡ saidOf row 
       (record { row = refl; numbers = refl; place = refl; count = sym (length-take-le size (drop from j) left); printed = refl; state = refl; lent = refl; journal = refl })
 
 pub restores-is : (row : ℕ) (v : RestoredIn) (next : Session) (lent : ℕ) (j : List ℕ) (number at : ℕ) (said : Said) → RestoreLeft v number at next → said ≡ saidOf row 2 number at 0 → Responds (restores row v lent j) (responseOf next lent said) j
-restores-is row v next lent j number at said told e =
-    rw e
-    (record {
-      row = refl;
-      numbers = rw (told .answer, told .beside);
-      place = refl;
-      count = refl;
-      printed = refl;
-      state = told .state;
-      lent = refl;
-      journal = refl;
-    })
+restores-is row v next lent j number at said told e = rw (← told .answer, ← told .beside, ← told .state) (says-is row 2 number at 0 said e next lent j)
 
 -- as many bytes as the part that is handed back has
 pub stretch-size : (s : Session) (lent : ℕ) (j : List ℕ) (p : Part) (bytes : List ℕ) → p ≡ stretchIn s lent → p .start + p .size ≤ lent → lent ≤ length j

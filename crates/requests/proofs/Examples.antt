@@ -9,11 +9,11 @@ use Rattle.text.specs.Text.{text}
 use Rattle.requests.specs.declared.forms.Form.{Form}
 use Rattle.requests.specs.declared.forms.Request.the-variants.{Offer}
 use Rattle.requests.specs.Words.{frontWord, laterWords, words, sameWord, allDigits, valueFrom, indexOf}
-use Rattle.requests.specs.Forms.{row, again, anywhere, tableWords, formAt, places, indexIn, placeAt, isWhole}
+use Rattle.requests.specs.Forms.{row, again, anywhere, tableWords, formAt, placeIn, indexIn, placeAt, isWhole}
 use Rattle.requests.specs.Requests.{Asking, nothing, malformed, kindIndex, numberAt, readFrom, named, filled, askedBy, asked}
 
 unfoldable pub meaning : Unit {0}
-unfolding text frontWord laterWords sameWord allDigits valueFrom indexOf formAt places indexIn placeAt isWhole kindIndex numberAt readFrom named filled askedBy asked
+unfolding text frontWord laterWords sameWord allDigits valueFrom indexOf formAt placeIn indexIn placeAt isWhole kindIndex numberAt readFrom named filled askedBy asked
 meaning = tt
 
 -- the row of a word, and numbers
@@ -32,10 +32,6 @@ AllMalformed ended inFile lines = map (λ (l : String). asked (text l) ended inF
 cut-short : (asked [] false false ≡ nothing) × AllMalformed false false ("back" ∷ "# back" ∷ [])
 unfolding meaning
 cut-short = (refl, refl)
-
-comment : asked (text " #back") true false ≡ nothing
-unfolding meaning
-comment = refl
 
 -- a name for a number, no form, words too many or too few, and numbers too large for their places
 malformed-lines : AllMalformed true false (
@@ -57,21 +53,11 @@ in-a-file : AllMalformed true true ("poke 0 255" ∷ "restore 64" ∷ [])
 unfolding meaning
 in-a-file = refl
 
-offer-by-name : asked (text "  offer\tPREPB 0 3 017 ") true false ≡ asks "offer" (4 ∷ 0 ∷ 3 ∷ 17 ∷ [])
+-- a comment, a kind by its name and by a number, the largest numbers, and what stands in memory only
+asked-lines : map (λ (l : String). asked (text l) true false) (" #back" ∷ "  offer\tPREPB 0 3 017 " ∷ "ask 257 1 0\r" ∷ "lend 18446744073709551615" ∷ "poke 0 255" ∷ "restore 64" ∷ [])
+    ≡ nothing ∷ asks "offer" (4 ∷ 0 ∷ 3 ∷ 17 ∷ []) ∷ asks "ask" (257 ∷ 1 ∷ 0 ∷ []) ∷ asks "lend" (18446744073709551615 ∷ []) ∷ asks "poke" (0 ∷ 255 ∷ []) ∷ asks "restore" (64 ∷ []) ∷ []
 unfolding meaning
-offer-by-name = refl
-
-ask-by-number : asked (text "ask 257 1 0\r") true true ≡ asks "ask" (257 ∷ 1 ∷ 0 ∷ [])
-unfolding meaning
-ask-by-number = refl
-
-largest-number : asked (text "lend 18446744073709551615") true true ≡ asks "lend" (18446744073709551615 ∷ [])
-unfolding meaning
-largest-number = refl
-
-in-memory : (asked (text "poke 0 255") true false ≡ asks "poke" (0 ∷ 255 ∷ [])) × (asked (text "restore 64") true false ≡ asks "restore" (64 ∷ []))
-unfolding meaning
-in-memory = (refl, refl)
+asked-lines = refl
 
 opening : asked (text "open 4 2 1 4294967295 1 2 3 4 5 6 7 8 9 10 11 12 13 14 15 16 17 18 19 65535") true true ≡ asks "open" (4 ∷ 2 ∷ 1 ∷ 4294967295 ∷ 1 ∷ 2 ∷ 3 ∷ 4 ∷ 5 ∷ 6 ∷ 7 ∷ 8 ∷ 9 ∷ 10 ∷ 11 ∷ 12 ∷ 13 ∷ 14 ∷ 15 ∷ 16 ∷ 17 ∷ 18 ∷ 19 ∷ 65535 ∷ [])
 unfolding meaning
@@ -81,18 +67,14 @@ opening = refl
 groups : Form
 groups = row "offer" Offer 1 3 0 0 0 again anywhere .form
 
-two-groups : filled (indexOf (text "offer") tableWords) groups (readFrom groups 0 (words (text "RD 0 1 2 WR 3 4 5"))) ≡ asks "offer" (2 ∷ 0 ∷ 1 ∷ 2 ∷ 3 ∷ 3 ∷ 4 ∷ 5 ∷ [])
-unfolding meaning groups
-two-groups = refl
+abbrev inGroups : String → Asking
+inGroups line = filled (indexOf (text "offer") tableWords) groups (readFrom groups 0 (words (text line)))
 
-no-group : filled (indexOf (text "offer") tableWords) groups (readFrom groups 0 []) ≡ asks "offer" []
+whole-groups : (inGroups "RD 0 1 2 WR 3 4 5" ≡ asks "offer" (2 ∷ 0 ∷ 1 ∷ 2 ∷ 3 ∷ 3 ∷ 4 ∷ 5 ∷ [])) × (inGroups "" ≡ asks "offer" [])
 unfolding meaning groups
-no-group = refl
+whole-groups = (refl, refl)
 
-part-of-a-group : filled (indexOf (text "offer") tableWords) groups (readFrom groups 0 (words (text "RD 0 1 2 WR 3"))) ≡ malformed
+-- a part of a group, and a name behind one
+no-groups : (inGroups "RD 0 1 2 WR 3" ≡ malformed) × (inGroups "RD 0 1 2 3 WR 4 5" ≡ malformed)
 unfolding meaning groups
-part-of-a-group = refl
-
-name-behind-a-group : filled (indexOf (text "offer") tableWords) groups (readFrom groups 0 (words (text "RD 0 1 2 3 WR 4 5"))) ≡ malformed
-unfolding meaning groups
-name-behind-a-group = refl
+no-groups = (refl, refl)

@@ -1,4 +1,3 @@
-pub mod SliceLaws
 pub mod PlaceLaws
 pub mod WordLaws
 pub mod FormLaws

@@ -1,14 +1,19 @@
--- A scan, byte by byte, finds the place.
+-- Laws of places in bytes.
 use mathlib.Core.Path.{_≡_}
 use mathlib.Core.Bool.{Bool, true, false, cond}
 use mathlib.Core.List.{List, [], _∷_}
 use Prim.Native.Nat.{ℕ, suc, _+_, _≤_, _<_}
 use native.Mathlib.Numerals.{add-one}
 use native.Mathlib.Omega.{arith}
-use lib.ListN.{length, drop, getD, length-drop, drop-of-length-le}
+use lib.ListN.{length, drop, getD, length-drop, take, length-take, drop-of-length-le}
 use lib.Seq.{drop-cons}
 use Rattle.requests.specs.Places.{leading, past}
 
+-- the front of bytes
+pub front-size : (n : ℕ) (j : List ℕ) → n ≤ length j → n ≡ length (take n j)
+front-size n j low = simp length-take (omega arith)
+
+-- a scan, byte by byte, finds the place
 module _ (test : ℕ → Bool) (bytes : List ℕ) where
   -- at a byte that fails the test, behind one that passes, and at the end
   pub past-here : (i : ℕ) → i < length bytes → test (getD bytes i 0) ≡ false → past test bytes i ≡ i

@@ -5,10 +5,9 @@ use mathlib.Core.List.{List, [], _∷_, _++_, map, append-assoc, append-nil}
 use Prim.Native.Nat.{ℕ, zero, suc, _+_, _-_, _≤_, _<_}
 use native.Mathlib.Numerals.{add-one}
 use native.Mathlib.Omega.{arith}
-use lib.Dec.{leb}
-use lib.ListN.{length, take, drop, getD, set, length-take}
+use lib.ListN.{length, take, getD, set, length-take}
 use lib.Seq.{take-suc-set}
-use borrow.Author.Tests.{le-leb, lt-leb, eq-eqb, ne-eqb, le-ltb, lt-ltb}
+use borrow.Author.Tests.{eq-eqb, ne-eqb, le-ltb, lt-ltb}
 use Rattle.text.specs.Text.{text}
 use Rattle.timing.specs.declared.kinds.CommandKind.the-variants.{Act}
 use Rattle.timing.specs.Kinds.{codeOf}
@@ -24,12 +23,6 @@ use Rattle.requests.specs.Words.{frontWord, laterWords, words, indexOf, 
 use Rattle.requests.specs.Forms.{tableWords, noForm, noLine, formAt, placeAt, isWhole}
 use Rattle.requests.proofs.FormLaws.{joined, table-words}
 use Rattle.requests.specs.Requests.{kinds, kindIndex, within, numberAt, named, Read, these, unread, also, readFrom, filled, IsRead, Fills, Asking, nothing, malformed, askedBy, asked, Asks}
-
-pub within-high : (n most : ℕ) (number : Number) → number ≡ Value n → most < n → NoNumber ≡ within most number
-within-high n most number e over = rw (e, lt-leb n most over)
-
-pub within-low : (n most : ℕ) (number : Number) → number ≡ Value n → n ≤ most → Value n ≡ within most number
-within-low n most number e under = rw (e, le-leb n most under)
 
 pub number-read : (f : Form) (i : ℕ) (w : List ℕ) (p : Place) {number known : Number} → number ≡ numberAt p w → p ≡ placeAt f i → number ≡ known → numberAt (placeAt f i) w ≡ known
 number-read f i w p e at is = rw (← at, ← e) is

@@ -8,15 +8,14 @@ use Prim.Native.String.{String}
 use native.Mathlib.Nat.{mod-eq-of-lt}
 use lib.Dec.{ltb, eqb, leb}
 use lib.ListN.{length, getD}
-use borrow.Author.Tests.{leb-true}
+use borrow.Author.Tests.{leb-true, le-ltb, lt-ltb}
 use Rattle.text.specs.Text.{text}
 use Rattle.requests.specs.declared.forms.Form.{Form}
 use Rattle.requests.specs.declared.words.Number.{Number}
 use Rattle.requests.specs.declared.words.Number.the-variants.{Value, NoNumber}
 use Rattle.requests.specs.Words.{words, sameWord, indexOf, numberOf}
-use Rattle.requests.specs.Forms.{upTo, tableWords, formAt, places, indexIn, placeAt, isWhole}
+use Rattle.requests.specs.Forms.{upTo, tableWords, formAt, placeIn, indexIn, placeAt, isWhole}
 use Rattle.requests.specs.Requests.{within, numberAt, Read, these, unread, also, readFrom, Asking, named, filled, askedBy, withoutReturn, asked}
-use Rattle.requests.proofs.FormLaws.{place-half}
 
 number-fits : (most : ℕ) (w : List ℕ) (n : ℕ) → numberAt (upTo most) w ≡ Value n → n ≤ most
 unfolding numberAt
@@ -90,13 +89,13 @@ module _ (line : List ℕ) (ended inFile : Bool) where
   Asks word = asked line ended inFile .row ≡ indexOf (text word) tableWords
 
   pub client-whole : Asks "open" → number 3 % 4294967296 ≡ number 3
-  unfolding text sameWord indexOf formAt places indexIn placeAt
+  unfolding text sameWord indexOf formAt placeIn indexIn placeAt
   client-whole is = whole 3 4294967295 (rw is)
 
   pub gap-whole : Asks "open" → (i : ℕ) → i < 20 → number (4 + i) % 65536 ≡ number (4 + i)
-  unfolding text sameWord indexOf formAt indexIn placeAt
-  gap-whole is i low = whole (4 + i) 65535 (rw is (sym (place-half (formAt (indexOf (text "open") tableWords)) (4 + i) (omega arith) (omega arith) (omega arith) (omega arith))))
+  unfolding text sameWord indexOf formAt placeIn indexIn placeAt
+  gap-whole is i low = whole (4 + i) 65535 (rw (is, le-ltb (4 + i) 0 (omega arith), le-ltb (4 + i) 3 (omega arith), le-ltb (4 + i) 4 (omega arith), lt-ltb (4 + i) 24 (omega arith)))
 
   pub byte-whole : Asks "poke" → number 1 % 256 ≡ number 1
-  unfolding text sameWord indexOf formAt places indexIn placeAt
+  unfolding text sameWord indexOf formAt placeIn indexIn placeAt
   byte-whole is = whole 1 255 (rw is)

@@ -1,35 +1,18 @@
 -- Laws of words and of numbers.
 use mathlib.Core.Path.{_≡_, refl, sym, _∙_, ap}
 use mathlib.Core.Bool.{Bool, true, false, cond, not, _&&_, and-false, true≢false}
-use mathlib.Core.List.{List, [], _∷_, _++_, append-assoc, append-nil}
+use mathlib.Core.List.{List, [], _∷_}
 use Prim.Native.Nat.{ℕ, suc, _+_, _-_, _*_, _/_, _≤_, _<_, min}
 use native.Mathlib.Numerals.{add-one}
 use native.Mathlib.Omega.{arith}
 use lib.Dec.{eqb, leb}
-use lib.ListN.{length, take, drop, getD, set, replicate, length-take, length-drop, length-set, drop-of-length-le, take-append-drop}
-use lib.Seq.{drop-cons, drop-drop, take-suc-set, drop-set-lt, getD-take, getD-drop}
+use lib.ListN.{length, take, drop, getD, length-take, length-drop, drop-of-length-le}
+use lib.Seq.{drop-cons, drop-drop, getD-take, getD-drop}
 use borrow.Author.Tests.{leb-true, leb-false, lt-leb, le-leb, eq-eqb, ne-eqb}
 use Rattle.requests.specs.declared.words.Word.{Word}
 use Rattle.requests.specs.declared.words.Number.the-variants.{Value, NoNumber}
 use Rattle.requests.specs.Places.{leading, past}
-use Rattle.requests.specs.Words.{
-  isBlank,
-  inWord,
-  before,
-  frontWord,
-  laterWords,
-  words,
-  wordAt,
-  sameWord,
-  isDigit,
-  allDigits,
-  valueFrom,
-  valueOf,
-  isNumber,
-  numberOf,
-  indexOf,
-  IsWord,
-}
+use Rattle.requests.specs.Words.{isBlank, inWord, before, frontWord, laterWords, words, wordAt, sameWord, isDigit, allDigits, valueFrom, valueOf, numberOf, indexOf, IsWord}
 use Rattle.requests.proofs.PlaceLaws.{past-low, past-high}
 
 -- two words, byte by byte
@@ -211,9 +194,6 @@ module _ (line : List ℕ) (from : ℕ) (w : Word) (is : w ≡ wordAt line from)
         go : (p : List ℕ) → 0 < length p → before p (words (drop (w .end) line)) ≡ p ∷ words (drop (w .end) line)
         go [] n = absurd (omega arith)
         go (b ∷ bs) n = refl
-
-    pub next-some : words (drop from line) ≡ [] → ⊥
-    next-some e = let there = next-cons in let z : _≡_ {A = ℕ} 0 1 = cc in omega arith
 
     pub word-first : getD wordBytes 0 0 ≡ getD line (w .start) 0
     word-first =

@@ -1,10 +1,10 @@
 -- The table of forms.
 use mathlib.Core.Bool.{Bool, true, false, cond, not, _&&_}
-use mathlib.Core.List.{List, [], _∷_, _++_, map}
+use mathlib.Core.List.{List, [], _∷_, map}
 use Prim.Native.Nat.{ℕ, _+_, _%_}
 use Prim.Native.String.{String}
-use lib.Dec.{eqb}
-use lib.ListN.{length, getD, replicate}
+use lib.Dec.{eqb, ltb}
+use lib.ListN.{length, getD}
 use Rattle.text.specs.Text.{text}
 use Rattle.requests.specs.declared.forms.Form.{Form}
 use Rattle.requests.specs.declared.forms.Place.{Place}
@@ -82,13 +82,13 @@ upTo most = record { named = false; most = most }
 abbrev pub byte : Place
 byte = upTo 255
 
-unfoldable pub places : Form → List Place
-places f =
-    replicate (f .1) kind
-    ++ (replicate (f .2) (upTo 18446744073709551615)
-    ++ (replicate (f .3) (upTo 4294967295)
-    ++ (replicate (f .4) (upTo 65535)
-    ++ replicate (f .5) byte)))
+-- kinds stand first, and behind them numbers of 64, 32, 16 and 8 bits
+unfoldable pub placeIn : Form → ℕ → Place
+placeIn f i =
+    cond (ltb i (f .1)) kind
+    (cond (ltb i (f .1 + f .2)) (upTo 18446744073709551615)
+    (cond (ltb i (f .1 + f .2 + f .3)) (upTo 4294967295)
+    (cond (ltb i (f .1 + f .2 + f .3 + f .4)) (upTo 65535) byte)))
 
 abbrev pub sizeOf : Form → ℕ
 sizeOf f = f .1 + f .2 + f .3 + f .4 + f .5
@@ -98,7 +98,7 @@ unfoldable pub indexIn : Form → ℕ → ℕ
 indexIn f i = cond (f .6 && not (eqb (sizeOf f) 0)) (i % sizeOf f) i
 
 unfoldable pub placeAt : Form → ℕ → Place
-placeAt f i = getD (places f) (indexIn f i) byte
+placeAt f i = placeIn f (indexIn f i)
 
 -- so many numbers fill the places once, or in whole groups
 unfoldable pub isWhole : Form → ℕ → Bool

@@ -1,7 +1,6 @@
 // The table of forms. A form is a row: a word, and what stands behind it.
 ghost use mathlib.Core.Path.{_≡_};
-ghost use lib.ListN.{getD};
-ghost use Rattle.requests.specs.Forms.{formAt, sizeOf, indexIn, placeAt, upTo, byte, places, isWhole};
+ghost use Rattle.requests.specs.Forms.{formAt, sizeOf, indexIn, placeAt, upTo, placeIn, isWhole};
 
 // What a line asks: a row of the table, nothing (a blank line or a comment), or what is no line of the table.
 pub enum Request {
@@ -81,24 +80,24 @@ fn up_to(most: u64) -> Place
 }
 
 fn place_in(form: Form, i: usize) -> Place
-    ensures { λ r. ⌜ r ≡ getD (places form) i byte ⌝ }
+    ensures { λ r. ⌜ r ≡ placeIn form i ⌝ }
 {
-    if i < form.1 as usize {
+    let kinds = form.1 as usize;
+    if i < kinds {
         return Place {
             named: true,
             most: u64::MAX,
         };
     }
-    let long = i - form.1 as usize;
-    if long < form.2 as usize {
+    let longs = kinds + form.2 as usize;
+    if i < longs {
         return up_to(u64::MAX);
     }
-    let word = long - form.2 as usize;
-    if word < form.3 as usize {
+    let words = longs + form.3 as usize;
+    if i < words {
         return up_to(4294967295);
     }
-    let half = word - form.3 as usize;
-    if half < form.4 as usize {
+    if i < words + form.4 as usize {
         return up_to(65535);
     }
     up_to(255)

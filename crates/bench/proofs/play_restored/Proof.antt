@@ -1,5 +1,5 @@
 -- `play_restored` meets its contract.
-use Rattle.requests.proofs.SliceLaws.{front-size}
+use Rattle.requests.proofs.PlaceLaws.{front-size}
 use borrow.Author.Needs.{needs}
 use Rattle.bench.proofs.play_restored.Statement.{statement}
 use Rattle.bench.proofs.play_restored.Tie as tie

@@ -1,5 +1,5 @@
 -- `flush` meets its contract.
-use Rattle.requests.proofs.SliceLaws.{front-size}
+use Rattle.requests.proofs.PlaceLaws.{front-size}
 use borrow.Author.Needs.{needs}
 use Rattle.bench.proofs.gather.flush.Statement.{statement}
 use Rattle.bench.proofs.gather.flush.Tie as tie

@@ -1,7 +1,7 @@
 -- `stop_of` meets its contract.
 use native.Mathlib.Omega.{arith}
 use lib.ListN.{length-take}
-use Rattle.requests.proofs.SliceLaws.{front-size}
+use Rattle.requests.proofs.PlaceLaws.{front-size}
 use borrow.Author.Needs.{needs}
 use Rattle.bench.proofs.play.stop_of.Statement.{statement}
 use Rattle.bench.proofs.play.stop_of.Tie as tie

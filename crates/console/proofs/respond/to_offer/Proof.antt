@@ -3,7 +3,7 @@ use mathlib.Core.Path.{refl}
 use lib.ListN.{length, take}
 use Rattle.history.specs.Answers.{roomOf}
 use Rattle.statements.specs.Exact.{offerIn}
-use Rattle.requests.proofs.SliceLaws.{front-size}
+use Rattle.requests.proofs.PlaceLaws.{front-size}
 use Rattle.console.specs.Say.{full}
 use Rattle.console.specs.Respond.{outcomeIn}
 use Rattle.console.proofs.RespondLaws.{called-is}

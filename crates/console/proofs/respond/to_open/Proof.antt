@@ -1,11 +1,8 @@
 -- `to_open` meets its contract.
 use mathlib.Core.Path.{refl}
-use lib.ListN.{length, take}
-use Rattle.history.specs.Answers.{roomOf}
-use Rattle.statements.specs.Exact.{openIn}
-use Rattle.requests.proofs.SliceLaws.{front-size}
+use Rattle.requests.proofs.PlaceLaws.{front-size}
 use Rattle.console.specs.Say.{brief}
-use Rattle.console.specs.Respond.{settingsOf, outcomeIn}
+use Rattle.console.specs.Respond.{outcomeIn}
 use Rattle.console.proofs.RespondLaws.{called-is}
 use borrow.Author.Needs.{needs}
 use Rattle.console.proofs.respond.to_open.Statement.{statement}

@@ -1,6 +1,6 @@
 -- `to_poke` meets its contract.
 use borrow.Author.Tests.{lt-ltb, le-ltb}
-use lib.ListN.{length, set}
+use lib.ListN.{length}
 use Rattle.console.specs.Respond.{outcomeIn}
 use Rattle.console.proofs.RespondLaws.{says-is}
 use borrow.Author.Needs.{needs}

@@ -6,7 +6,7 @@ use native.Mathlib.Omega.{arith}
 use lib.ListN.{length, take}
 use Rattle.statements.specs.Exact.{restoreIn}
 use Rattle.text.proofs.PutLaws.{take-min}
-use Rattle.requests.proofs.SliceLaws.{front-size}
+use Rattle.requests.proofs.PlaceLaws.{front-size}
 use Rattle.console.specs.Respond.{restores, outcomeIn, Responds}
 use Rattle.console.proofs.RespondLaws.{responseOf, restores-is}
 use borrow.Author.Needs.{needs}

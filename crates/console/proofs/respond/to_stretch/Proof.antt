@@ -1,10 +1,9 @@
 -- `to_stretch` meets its contract.
-use mathlib.Core.Path.{_≡_, ap, sym, subst}
+use mathlib.Core.Path.{_≡_, ap, subst}
 use mathlib.Core.List.{[], _∷_}
-use Prim.Native.Nat.{ℕ}
 use native.Mathlib.Omega.{arith}
 use lib.ListN.{length}
-use Rattle.requests.proofs.SliceLaws.{front-size}
+use Rattle.requests.proofs.PlaceLaws.{front-size}
 use Rattle.journal.specs.Restore.{Part, partOf}
 use Rattle.statements.specs.Calls.{Seen}
 use Rattle.checker.specs.Replies.{stretchTold}

@@ -3,7 +3,7 @@ use mathlib.Core.Path.{_≡_}
 use native.Mathlib.Omega.{arith}
 use lib.ListN.{length}
 use Rattle.text.specs.Text.{text}
-use Rattle.requests.proofs.SliceLaws.{front-size}
+use Rattle.requests.proofs.PlaceLaws.{front-size}
 use Rattle.console.proofs.SayLaws.{line-plain, line-bytes}
 use borrow.Author.Needs.{needs, length-unmapped}
 use Rattle.console.proofs.say.said_line.Statement.{statement}

@@ -1,6 +1,5 @@
 -- `status_said` meets its contract.
 use mathlib.Core.Path.{refl}
-use Rattle.checker.specs.Replies.{statusReplied}
 use borrow.Author.Needs.{needs}
 use Rattle.console.proofs.say.status_said.Statement.{statement}
 use Rattle.console.proofs.say.status_said.Tie as tie

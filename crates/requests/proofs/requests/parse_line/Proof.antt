@@ -1,10 +1,9 @@
 -- `parse_line` meets its contract.
-use mathlib.Core.Path.{_≡_, subst, sym}
 use Prim.Native.Nat.{_-_}
 use native.Mathlib.Omega.{arith}
 use lib.ListN.{length, length-take}
 use borrow.Author.Tests.{not-true, not-false}
-use Rattle.requests.proofs.SliceLaws.{front-size}
+use Rattle.requests.proofs.PlaceLaws.{front-size}
 use Rattle.requests.proofs.RequestLaws.{none-asked, asked-empty, asked-cut, asked-long, asked-return, asked-ended}
 use borrow.Author.Needs.{needs}
 use Rattle.requests.proofs.requests.parse_line.Statement.{statement}

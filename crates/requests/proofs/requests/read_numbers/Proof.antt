@@ -4,9 +4,8 @@ use Prim.Native.Nat.{_-_, _≤_}
 use native.Mathlib.Omega.{arith}
 use lib.ListN.{length, take, drop, length-set}
 use Rattle.requests.specs.Words.{words}
-use Rattle.requests.specs.Forms.{placeAt}
-use Rattle.requests.specs.Requests.{numberAt, readFrom}
-use Rattle.requests.proofs.WordLaws.{Walk, walk-places, walk-next, wordBytes, next-cons, next-empty}
+use Rattle.requests.specs.Requests.{readFrom}
+use Rattle.requests.proofs.WordLaws.{Walk, walk-places, walk-next, next-cons, next-empty}
 use Rattle.requests.proofs.RequestLaws.{onto, onto-none, read-end, read-bad, read-next, number-read}
 use borrow.Author.Needs.{needs}
 use Rattle.requests.proofs.requests.read_numbers.Statement.{statement}

@@ -1,5 +1,5 @@
 -- `nth_word` meets its contract. The loop walks over the words.
-use mathlib.Core.Path.{_≡_, refl}
+use mathlib.Core.Path.{_≡_}
 use mathlib.Core.List.{[]}
 use Prim.Native.Nat.{_-_, _≤_}
 use native.Mathlib.Numerals.{unary-clauses}
