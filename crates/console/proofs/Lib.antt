@@ -1,4 +1,4 @@
-pub mod Examples
-pub mod OutputLaws
-pub mod SayLaws
-pub mod RespondLaws
+mod Examples
+mod OutputLaws
+mod SayLaws
+mod RespondLaws

@@ -1,6 +1,6 @@
 pub mod PlaceLaws
-pub mod WordLaws
+mod WordLaws
 pub mod FormLaws
-pub mod RequestLaws
+mod RequestLaws
 pub mod WidthLaws
-pub mod Examples
+mod Examples

@@ -60,10 +60,10 @@ pub const ROWS: usize = 11;
 pub fn form_at(row: usize) -> Form
     ensures { λ r. ⌜ r ≡ formAt row ⌝ }
 {
-    let forms = FORMS;
     if ROWS <= row {
         return Form(Request::Nothing, 0, 0, 0, 0, 0, false, true);
     }
+    let forms = FORMS;
     forms[row]
 }
 

@@ -1,16 +1,9 @@
 -- `stop_of` meets its contract.
 use native.Mathlib.Omega.{arith}
 use lib.ListN.{length-take}
-use Rattle.requests.proofs.PlaceLaws.{front-size}
 use borrow.Author.Needs.{needs}
 use Rattle.bench.proofs.play.stop_of.Statement.{statement}
 use Rattle.bench.proofs.play.stop_of.Tie as tie
-
-slice-aggregate-past : tie.Need-slice-aggregate-past
-slice-aggregate-past c =
-    let i = c .before in
-    let a = i .before .before .args in
-    front-size (a .end) (a .input .now) (i .if1 .left)
 
 returns-2 : tie.Need-returns-2
 returns-2 c low =
@@ -20,4 +13,6 @@ returns-2 c low =
     (omega (arith, c .past .ensures, i .if1 .left), omega (arith, i .if1 .left))
 
 pub stop-of-spec : {M : Type 1} → statement M
-stop-of-spec = tie.close (tie.spec (λ c low. absurd (omega arith)) slice-aggregate-past (λ c κs. search needs) returns-2)
+stop-of-spec =
+    tie.close
+    (tie.spec (λ c low. absurd (omega arith)) (λ c. simp length-take (omega (arith, c .before .if1 .left))) (λ c κs. search needs) returns-2)

@@ -11,11 +11,6 @@ use borrow.Author.Needs.{needs}
 use Rattle.console.proofs.respond.to_offer.Statement.{statement}
 use Rattle.console.proofs.respond.to_offer.Tie as tie
 
-slice-aggregate-offer : tie.Need-slice-aggregate-offer
-slice-aggregate-offer c =
-    let s = c .before .before .before .before .before .before in
-    front-size (s .args .lent) (s .args .journal .now) (s .pre)
-
 returns : tie.Need-returns
 unfolding outcomeIn
 returns c =
@@ -29,5 +24,5 @@ returns c =
 pub to-offer-spec : {M : Type 1} → statement M
 to-offer-spec =
     tie.close
-    (tie.spec (λ c κs. search needs) (λ c κs. search needs) (λ c κs. search needs) (λ c κs. search needs) (λ c. search needs) slice-aggregate-offer
+    (tie.spec (λ c κs. search needs) (λ c κs. search needs) (λ c κs. search needs) (λ c κs. search needs) (λ c. search needs) (λ c. let s = c .before .before .before .before .before .before in front-size (s .args .lent) (s .args .journal .now) (s .pre))
     (λ c κs. search needs) (λ c κs. search needs) (λ c. search needs) returns)

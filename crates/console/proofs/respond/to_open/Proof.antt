@@ -8,11 +8,6 @@ use borrow.Author.Needs.{needs}
 use Rattle.console.proofs.respond.to_open.Statement.{statement}
 use Rattle.console.proofs.respond.to_open.Tie as tie
 
-slice-aggregate-open-session : tie.Need-slice-aggregate-open-session
-slice-aggregate-open-session c =
-    let s = c .before .before .before .before .before .before .before in
-    front-size (s .args .lent) (s .args .journal .now) (s .pre)
-
 returns : tie.Need-returns
 unfolding outcomeIn
 returns c =
@@ -28,4 +23,4 @@ pub to-open-spec : {M : Type 1} → statement M
 to-open-spec =
     tie.close
     (tie.spec (λ c κs. search needs) (λ c κs. search needs) (λ c κs. search needs) (λ c κs. search needs) (λ c. search needs) (λ c κs. search needs)
-    (λ c. search needs) slice-aggregate-open-session (λ c κs. search needs) (λ c κs. search needs) (λ c. search needs) returns)
+    (λ c. search needs) (λ c. let s = c .before .before .before .before .before .before .before in front-size (s .args .lent) (s .args .journal .now) (s .pre)) (λ c κs. search needs) (λ c κs. search needs) (λ c. search needs) returns)

@@ -13,11 +13,6 @@ use borrow.Author.Needs.{needs}
 use Rattle.console.proofs.respond.to_restore.Statement.{statement}
 use Rattle.console.proofs.respond.to_restore.Tie as tie
 
-slice-aggregate-restore : tie.Need-slice-aggregate-restore
-slice-aggregate-restore c =
-    let n = c .before in
-    front-size (n .smaller .result) (n .before .before .before .args .journal .now) (omega (arith, n .smaller .ensures))
-
 returns : tie.Need-returns
 unfolding outcomeIn
 returns c s =
@@ -31,4 +26,4 @@ returns c s =
 pub to-restore-spec : {M : Type 1} → statement M
 to-restore-spec =
     tie.close
-    (tie.spec (λ c κs. search needs) (λ c κs. search needs) slice-aggregate-restore (λ c κs. search needs) (λ c κs. search needs) returns)
+    (tie.spec (λ c κs. search needs) (λ c κs. search needs) (λ c. let n = c .before in front-size (n .smaller .result) (n .before .before .before .args .journal .now) (omega (arith, n .smaller .ensures))) (λ c κs. search needs) (λ c κs. search needs) returns)

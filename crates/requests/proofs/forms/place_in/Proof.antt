@@ -33,4 +33,8 @@ returns-5 c =
     c .up-to4 .ensures ∙ rw (le-ltb _ _ (d .before .before .before .before .if1 .left), le-ltb _ _ (d .before .before .if2 .left), le-ltb _ _ (d .if3 .left), le-ltb _ _ (c .before .if4 .left))
 
 pub place-in-spec : {M : Type 1} → statement M
-place-in-spec = tie.close (tie.spec (λ c. search needs) returns (λ c. search needs) (λ c. search needs) (λ c κs. search needs) returns-2 (λ c. search needs) (λ c. search needs) (λ c κs. search needs) returns-3 (λ c. search needs) (λ c. search needs) (λ c κs. search needs) returns-4 (λ c κs. search needs) returns-5)
+place-in-spec =
+    tie.close
+    (tie.spec (λ c. search needs) returns (λ c. search needs) (λ c. search needs) (λ c κs. search needs) returns-2 (λ c. search needs)
+    (λ c. search needs) (λ c κs. search needs) returns-3 (λ c. search needs) (λ c. search needs) (λ c κs. search needs) returns-4
+    (λ c κs. search needs) returns-5)
