@@ -216,7 +216,15 @@ pub fn run(start: Session, file: i32, journal: &mut [u8]) {
         let before = session.progress.records;
         let next = response.session;
         let said = response.said;
-        let after = answered(line, file, journal, before, next.progress.records, &mut out, said);
+        let after = answered(
+            line,
+            file,
+            journal,
+            before,
+            next.progress.records,
+            &mut out,
+            said,
+        );
         session = next;
         lent = response.lent;
         turn = after;
