@@ -232,6 +232,33 @@ struct rossinhiu_listed rossinhiu_list_part(struct rossinhiu_session session, co
                                             uint8_t *out, size_t out_size)
     ROSSINHIU_AS("rossinhiu_list_part");
 
+/*
+ * Plays one line of the text language of the program `bench` (`bench --help` prints its forms): the request that it asks is performed,
+ * and the answer comes back as text. `line` is what stands before the newline; calls see the first `given.lent` bytes of the journal,
+ * `restore`, `poke` and `bytes` all of it: begin with `lent` at its size. `numbers` is memory for the call's own use, whatever it holds.
+ * `written` bytes of text stand at the front of `out`, without a newline: 0 if the line asks nothing (blank, or a comment), else at
+ * most 512, so lend 512; with fewer nothing may be written. Behind the text belong `hex_count` bytes of the journal from `hex_from` on,
+ * as lower-case hexadecimal; they never go past the journal.
+ * If session.records has grown by one, the line was accepted and its record written, at 64 times the count before.
+ */
+#define ROSSINHIU_ANSWER_SIZE 512
+#define ROSSINHIU_NUMBERS 4096
+struct rossinhiu_given {
+    size_t lent;
+    uint64_t ended;   /* 0 if no newline came: the line was cut short, and is not played */
+    uint64_t in_file; /* 0 if the journal is memory alone; else `poke` and `restore` are no forms */
+};
+struct rossinhiu_played {
+    struct rossinhiu_session session; /* go on from it: where its records have grown, once the record is on the disk */
+    size_t lent;                      /* what is lent from now on: the line may be `lend` */
+    size_t written;
+    size_t hex_from;
+    size_t hex_count;
+};
+struct rossinhiu_played rossinhiu_console(struct rossinhiu_session session, uint8_t *journal, size_t size, const uint8_t *line,
+                                          size_t line_size, struct rossinhiu_given given, uint64_t numbers[ROSSINHIU_NUMBERS],
+                                          uint8_t *out, size_t out_size) ROSSINHIU_AS("rossinhiu_console");
+
 #ifdef __cplusplus
 }
 #endif
@@ -256,5 +283,8 @@ static inline const uint8_t *rossinhiu_shown(const uint8_t *bytes) {
 #define rossinhiu_restore(journal, size) rossinhiu_restore(rossinhiu_shown(journal), size)
 #define rossinhiu_list_part(session, part, part_size, last, out, out_size) \
     rossinhiu_list_part(session, rossinhiu_shown(part), part_size, last, rossinhiu_lent(out), out_size)
+#define rossinhiu_console(session, journal, size, line, line_size, given, numbers, out, out_size)                     \
+    rossinhiu_console(session, rossinhiu_lent(journal), size, rossinhiu_shown(line), line_size, given, numbers, rossinhiu_lent(out), \
+                      out_size)
 
 #endif

@@ -1,1 +1,2 @@
+pub mod LanguageLaws
 pub mod Ties

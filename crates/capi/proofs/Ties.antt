@@ -10,7 +10,9 @@ use Rattle.statements.specs.Calls.{given, Opens, Offers, TakesBack, TellsEarlie
 use Rattle.statements.specs.Statements.{Restores}
 use Rattle.statements.proofs.Ties.{Ensures}
 use Rattle.checker.specs.Replies.{stretchTold}
+use Rattle.requests.specs.Requests.{asked}
 use Rattle.capi.specs.Crossing.{statusGiven, ListsForC}
+use Rattle.capi.specs.Language.{comesTo, PlaysLine}
 use Rattle.capi.proofs.calls.rossinhiu_fresh_2.Kinds as fresh
 use Rattle.capi.proofs.calls.rossinhiu_fresh_2.Reads as fresh-reads
 use Rattle.capi.proofs.calls.rossinhiu_open_2.Kinds as opens
@@ -29,6 +31,8 @@ use Rattle.capi.proofs.calls.rossinhiu_restore_2.Kinds as restores
 use Rattle.capi.proofs.calls.rossinhiu_restore_2.Reads as restore-reads
 use Rattle.capi.proofs.calls.rossinhiu_list_part_2.Kinds as lists
 use Rattle.capi.proofs.calls.rossinhiu_list_part_2.Reads as list-reads
+use Rattle.capi.proofs.language.rossinhiu_console_2.Kinds as plays
+use Rattle.capi.proofs.language.rossinhiu_console_2.Reads as play-reads
 
 fresh-ensures : Ensures 0 fresh.ps fresh.r fresh-reads.Post (λ κs a r s. r ≡ freshState)
 fresh-ensures κs a r s p = p .0
@@ -59,3 +63,7 @@ restore-ensures κs a r s p = p
 
 list-ensures : Ensures 2 lists.ps lists.r list-reads.Post (λ κs a r s. ListsForC (now (a .1 .0)) (not (eqb (a .1 .1 .0) 0)) (a .0) (now (a .1 .1 .1 .0)) (now (s .1 .1 .1 .0)) r)
 list-ensures κs a r s p = p
+
+console-ensures : Ensures 4 plays.ps plays.r play-reads.Post
+    (λ κs a r s. PlaysLine (comesTo (asked (now (a .1 .1 .0)) (not (eqb (a .1 .1 .1 .0 .ended) 0)) (not (eqb (a .1 .1 .1 .0 .«in_file») 0))) (a .0) (now (a .1 .0)) (a .1 .1 .1 .0 .lent)) (now (s .1 .0)) (now (a .1 .1 .1 .1 .1 .0)) (now (s .1 .1 .1 .1 .1 .0)) r)
+console-ensures κs a r s p = p

@@ -2,7 +2,7 @@
 //! call here is safe for every argument.
 
 use crate::ffi;
-use crate::ffi::{Gaps, Numbers, Part, Session, Status};
+use crate::ffi::{Gaps, Given, Numbers, Part, Session, Status};
 
 /// The state with which a bench begins.
 pub fn fresh() -> Session {
@@ -72,6 +72,11 @@ pub fn stretch(session: &Session, size: usize) -> Part {
     unsafe { ffi::rossinhiu_stretch(*session, size) }
 }
 
+/// The records in the journal: the next one goes to 64 times as many bytes.
+pub fn records(session: &Session) -> u64 {
+    session.progress.records
+}
+
 /// Lists a part of a stored journal: the bytes written to `out`, and whether the listing has ended.
 pub fn list_part(session: &mut Session, part: &[u8], last: bool, out: &mut [u8]) -> (usize, bool) {
     let (from, size) = (part.as_ptr(), part.len());
@@ -79,4 +84,75 @@ pub fn list_part(session: &mut Session, part: &[u8], last: bool, out: &mut [u8])
     let done = unsafe { ffi::rossinhiu_list_part(*session, from, size, u64::from(last), to, room) };
     *session = done.session;
     (done.written, done.ended == 1)
+}
+
+/// The console's language over a state and a journal: what is lent, and the memory that a line needs.
+pub struct Console {
+    /// How many bytes of the journal are lent to each call.
+    pub lent: usize,
+    /// The journal is kept in a file, so `poke` and `restore` are no forms.
+    pub in_file: bool,
+    numbers: Box<[u64; 4096]>,
+    answer: [u8; 512],
+}
+
+/// The answer to a line: its text (empty: the line asks nothing), and the part of the journal that belongs behind it as hexadecimal.
+#[derive(Clone, Copy, Debug)]
+pub struct Said<'a> {
+    pub text: &'a [u8],
+    pub shown: Part,
+}
+
+impl Console {
+    /// So much is lent, in memory alone.
+    pub fn new(lent: usize) -> Console {
+        Console {
+            lent,
+            in_file: false,
+            numbers: Box::new([0; 4096]),
+            answer: [0; 512],
+        }
+    }
+
+    /// Plays one line, which stands before its newline: the request that it asks is performed on the state and the journal. A line
+    /// that no newline `ended` was cut short, and is not played.
+    ///
+    /// ```
+    /// use rossinhiu::checker::{fresh, Console};
+    ///
+    /// let (mut session, mut journal) = (fresh(), vec![0; 640]);
+    /// let mut console = Console::new(journal.len());
+    /// let said = console.line(&mut session, &mut journal, b"lend 128", true);
+    /// assert_eq!((said.text, said.shown.size), (b"lend 128".as_slice(), 0));
+    /// assert_eq!(console.lent, 128);
+    /// ```
+    pub fn line(
+        &mut self,
+        session: &mut Session,
+        journal: &mut [u8],
+        line: &[u8],
+        ended: bool,
+    ) -> Said<'_> {
+        let given = Given {
+            lent: self.lent,
+            ended: u64::from(ended),
+            in_file: u64::from(self.in_file),
+        };
+        let (at, size) = (journal.as_mut_ptr(), journal.len());
+        let (text, length) = (line.as_ptr(), line.len());
+        let (numbers, out) = (&mut *self.numbers, &mut self.answer);
+        let (to, room) = (out.as_mut_ptr(), out.len());
+        let done = unsafe {
+            ffi::rossinhiu_console(*session, at, size, text, length, given, numbers, to, room)
+        };
+        *session = done.session;
+        self.lent = done.lent;
+        Said {
+            text: &self.answer[..done.written],
+            shown: Part {
+                start: done.hex_from,
+                size: done.hex_count,
+            },
+        }
+    }
 }

@@ -124,6 +124,24 @@ pub struct Listed {
     pub ended: u64,
 }
 
+#[repr(C)]
+#[derive(Clone, Copy, Debug)]
+pub struct Given {
+    pub lent: usize,
+    pub ended: u64,
+    pub in_file: u64,
+}
+
+#[repr(C)]
+#[derive(Clone, Copy, Debug)]
+pub struct Played {
+    pub session: Session,
+    pub lent: usize,
+    pub written: usize,
+    pub hex_from: usize,
+    pub hex_count: usize,
+}
+
 extern "C" {
     #[link_name = "rossinhiu_fresh_2"]
     pub fn rossinhiu_fresh() -> Session;
@@ -167,4 +185,16 @@ extern "C" {
         out: *mut u8,
         out_size: usize,
     ) -> Listed;
+    #[link_name = "rossinhiu_console_2"]
+    pub fn rossinhiu_console(
+        session: Session,
+        journal: *mut u8,
+        size: usize,
+        line: *const u8,
+        line_size: usize,
+        given: Given,
+        numbers: *mut [u64; 4096],
+        out: *mut u8,
+        out_size: usize,
+    ) -> Played;
 }

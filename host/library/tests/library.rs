@@ -1,9 +1,10 @@
 //! The library's C functions held against the model: at least 5,000,000 calls, every answer and every byte of the journal.
 //! ROSSINHIU_CALLS gives another number of calls, ROSSINHIU_SEED the first seed.
 
-use rossinhiu::checker;
-use rossinhiu::ffi::{Numbers, Session};
-use rossinhiu_model::generate::{Rng, SETTINGS_A};
+use rossinhiu::checker::{self, Console, Said};
+use rossinhiu::ffi::{Numbers, Part, Session};
+use rossinhiu_model::console as model_console;
+use rossinhiu_model::generate::{script, Rng, MOODS, SETTINGS_A};
 use rossinhiu_model::listing;
 use rossinhiu_model::model::{Command, State, LAST_CYCLE, MOST_RECORDS, RECORD};
 use rossinhiu_speed::twin;
@@ -425,6 +426,74 @@ fn any_state_value() {
     }
 }
 
+// The console's language.
+
+/// The answer with its bytes as hexadecimal; none where nothing is printed.
+fn answer(said: Said, journal: &[u8]) -> Option<String> {
+    let text = String::from_utf8(said.text.to_vec()).expect("plain text");
+    let Part { start, size } = said.shown;
+    let hex: String = journal[start..start + size]
+        .iter()
+        .map(|b| format!("{b:02x}"))
+        .collect();
+    (!text.is_empty()).then_some(text + &hex)
+}
+
+/// Scripts of every mood, line by line, in memory and as over a file: the model's answers and the model's bytes.
+#[test]
+fn lines_as_the_model() {
+    for seed in 1..=2 * MOODS.len() as u64 {
+        let in_file = seed % 2 == 0;
+        let mut model = model_console::Console::new();
+        model.in_file = in_file;
+        let (mut session, mut journal) = (checker::fresh(), vec![0; model.journal.len()]);
+        let mut console = Console::new(journal.len());
+        console.in_file = in_file;
+        for line in script(seed, 200).lines {
+            let front = line.sent.strip_suffix(b"\n");
+            let (bytes, ended) = (front.unwrap_or(&line.sent), front.is_some());
+            let said = console.line(&mut session, &mut journal, bytes, ended);
+            let came = answer(said, &journal);
+            assert_eq!(
+                came,
+                model.line(bytes, ended),
+                "seed {seed}, {}",
+                bytes.escape_ascii()
+            );
+            assert_eq!(console.lent, model.lent);
+        }
+        assert!(journal == model.journal, "seed {seed}");
+    }
+}
+
+/// Any state value and any line: an answer, and what is shown lies within the journal. A refusal changes nothing.
+#[test]
+fn any_line_on_any_state_value() {
+    let mut rng = Rng::new(13);
+    let mut console = Console::new(0);
+    for seed in 1..=2 * MOODS.len() as u64 {
+        for line in script(seed, 200).lines {
+            let size = rng.below(5) * RECORD as u64 + rng.below(64);
+            let mut journal: Vec<u8> = (0..size).map(|n| n as u8).collect();
+            let (before, bytes) = (any_session(&mut rng), journal.clone());
+            let mut session = before;
+            console.lent = rng.draw() as usize >> rng.below(64);
+            console.in_file = rng.chance(50);
+            let said = console.line(&mut session, &mut journal, &line.sent, rng.chance(90));
+            let came = answer(said, &journal).unwrap_or_default();
+            let is_restored = came.starts_with("restore") || came.starts_with("poke");
+            let is_accepted = ["open 0", "offer 0", "back 0"]
+                .iter()
+                .any(|a| came.starts_with(a));
+            assert!(
+                is_restored || is_accepted || (session == before && journal == bytes),
+                "{came}"
+            );
+            assert!(console.lent <= journal.len());
+        }
+    }
+}
+
 fn any_session(rng: &mut Rng) -> Session {
     let mut session = checker::fresh();
     let mut any = || rng.draw() >> rng.below(64);
@@ -480,7 +549,7 @@ fn a_full_journal() {
 #[test]
 fn on_64_kib_of_stack() {
     type Call = fn(&mut Session, &mut [u8], &mut [u8]) -> u64;
-    let calls: [Call; 9] = [
+    let calls: [Call; 10] = [
         |s, _, _| {
             *s = checker::fresh();
             s.progress.records
@@ -501,15 +570,28 @@ fn on_64_kib_of_stack() {
             let (_, ended) = checker::list_part(s, &lent[..3 * RECORD], true, out);
             u64::from(!ended)
         },
+        |s, lent, _| {
+            let line = format!("open 4 2 1 7{}", " 65535".repeat(20));
+            let mut console = Console::new(lent.len());
+            let said = console.line(s, lent, line.as_bytes(), true);
+            u64::from(said.text != b"open 0")
+        },
     ];
+    for call in calls {
+        assert_eq!(with_stack(64, call), 0);
+    }
+}
+
+/// A call on a thread with so many KiB of stack.
+fn with_stack(size: usize, call: impl Fn(&mut Session, &mut [u8], &mut [u8]) -> u64 + Sync) -> u64 {
     let mut session = Box::new(checker::fresh());
     let (mut lent, mut out) = (vec![0; 8 * RECORD], vec![0; 8 * RECORD]);
-    for call in calls {
-        let number = thread::scope(|scope| {
-            let thread = thread::Builder::new().stack_size(64 * 1024);
-            let work = || call(&mut session, &mut lent, &mut out);
-            thread.spawn_scoped(scope, work).unwrap().join().unwrap()
-        });
-        assert_eq!(number, 0);
-    }
+    checker::open(&mut session, &mut lent, (4, 2, 1), 7, &SETTINGS_A);
+    checker::offer(&mut session, &mut lent, 1, 0, 2, 90);
+    checker::offer(&mut session, &mut lent, 1, 0, 1, 95);
+    thread::scope(|scope| {
+        let thread = thread::Builder::new().stack_size(size * 1024);
+        let work = || call(&mut session, &mut lent, &mut out);
+        thread.spawn_scoped(scope, work).unwrap().join().unwrap()
+    })
 }

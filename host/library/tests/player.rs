@@ -376,6 +376,11 @@ int main(void) {
     struct rossinhiu_opened s = rossinhiu_open(fresh, one, sizeof one, 1, 1, 0, 7, gaps);
     struct rossinhiu_listed empty = rossinhiu_list_part(fresh, NULL, 0, 1, lines, sizeof lines);
     struct rossinhiu_listed nowhere = rossinhiu_list_part(fresh, one, sizeof one, 1, NULL, 0);
+    static uint64_t numbers[ROSSINHIU_NUMBERS];
+    struct rossinhiu_given given = {64, 1, 1};
+    struct rossinhiu_played blank = rossinhiu_console(fresh, NULL, 0, NULL, 0, given, numbers, NULL, 0);
+    struct rossinhiu_played played = rossinhiu_console(s.session, one, sizeof one, (const uint8_t *)"back", 4, given, numbers, lines + 64, 64);
+    printf("%d %.*s ", (int)blank.written, (int)played.written, (const char *)lines + 64);
     printf("%d %d", (int)rossinhiu_open(s.session, NULL, 0, 1, 1, 0, 7, gaps).number, (int)s.number);
     printf(" %d", (int)rossinhiu_offer(s.session, NULL, 0, ROSSINHIU_ACT, 0, 0, 0).number);
     printf(" %d", (int)rossinhiu_take_back(fresh, NULL, 0).number);
@@ -403,7 +408,7 @@ fn the_header_in_c_and_in_cpp() {
         let said = String::from_utf8_lossy(&done.stderr);
         assert!(done.status.success() && said.is_empty(), "{name}: {said}");
         let ran = run(&mut command(&program, &[]), b"");
-        assert_eq!(ran.text(), "9 0 9 1 0 7 1 0 end 0 0\n", "{name}");
+        assert_eq!(ran.text(), "0 back 8 9 0 9 1 0 7 1 0 end 0 0\n", "{name}");
     }
 }
 
@@ -433,7 +438,7 @@ fn another_layout_does_not_link() {
 /// The number of the layout, and what it stands for: where sizes or offsets change, the next number goes into the header, the exported
 /// names and their names in Rust, and both are written here anew.
 const LAYOUT: u64 = 2;
-const FINGERPRINT: u64 = 7_110_238_863_049_127_311;
+const FINGERPRINT: u64 = 15_112_287_202_976_800_219;
 
 fn fingerprint(text: &str) -> u64 {
     let step = |hash: u64, byte: u8| (hash ^ u64::from(byte)).wrapping_mul(0x100_0000_01b3);
@@ -472,6 +477,8 @@ fn the_headers_layout() {
         "rossinhiu_restored" ffi::Restored { session, number, record }
         "rossinhiu_part" ffi::Part { start, size }
         "rossinhiu_listed" ffi::Listed { session, written, ended }
+        "rossinhiu_given" ffi::Given { lent, ended, in_file }
+        "rossinhiu_played" ffi::Played { session, lent, written, hex_from, hex_count }
     );
     let mut text = String::from("#include \"rossinhiu.h\"\n#include <stdio.h>\nint main(void) {\n");
     for (word, _) in &all {

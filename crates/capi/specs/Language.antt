@@ -1,0 +1,27 @@
+-- What a line of the console's language comes to, as it crosses to C.
+use mathlib.Core.Path.{_≡_}
+use mathlib.Core.List.{List}
+use Prim.Native.Nat.{ℕ}
+use lib.ListN.{length}
+use Rattle.session.specs.declared.state.Session.{Session}
+use Rattle.text.specs.Lines.{Put}
+use Rattle.requests.specs.Requests.{Asking}
+use Rattle.console.specs.declared.respond.Response.{Response}
+use Rattle.console.specs.Respond.{Outcome, outcome, Responds}
+use Rattle.console.specs.Say.{saidText}
+use Rattle.capi.specs.declared.language.LinePlayed.{LinePlayed}
+
+-- the outcome of what a line asks, on a state and a journal of which so much is lent
+abbrev pub comesTo : Asking → Session → List ℕ → ℕ → Outcome
+comesTo a s j lent = outcome s j lent (record { row = a .row; count = length (a .numbers) }) (a .numbers)
+
+-- there is a response that the console's own statement allows; its state, what it lends and the place of its bytes cross as they are, and
+-- its answer as text at the front of a buffer. Behind the text stand, as hexadecimal, the bytes at that place of the journal
+pub record PlaysLine (o : Outcome) (journal before after : List ℕ) (r : LinePlayed) : Type 0 where
+  pub response : Response
+  pub responds : Responds o response journal
+  pub session : r .session ≡ response .session
+  pub lent : r .lent ≡ response .lent
+  pub text : Put (saidText (response .said)) 0 before after (r .written)
+  pub place : r .«hex_from» ≡ response .said .«hex_from»
+  pub count : r .«hex_count» ≡ response .said .«hex_count»
