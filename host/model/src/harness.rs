@@ -35,24 +35,104 @@ pub fn gcc() -> Command {
     compiler("ROSSINHIU_CC", "gcc")
 }
 
-fn program(variable: &str, name: &str) -> PathBuf {
-    let beside = top().join("target/bin").join(name);
+/// A program under test, and the words that stand before a test's own.
+#[derive(Clone, Debug)]
+pub struct Program {
+    pub path: PathBuf,
+    pub words: &'static [&'static str],
+}
+
+/// The two programs of one maker: Rattle's `bench` and `list`, or the tool's words of the same names.
+pub struct Programs {
+    is_tool: bool,
+}
+
+/// The tool with the room that `bench` has. What a test names is a file, whatever it looks like.
+const TOOL_BENCH: &[&str] = &["bench", "--records", "65536", "--"];
+
+impl Programs {
+    pub const RATTLE: Programs = Programs { is_tool: false };
+    pub const TOOL: Programs = Programs { is_tool: true };
+
+    pub fn is_tool(&self) -> bool {
+        self.is_tool
+    }
+
+    pub fn bench(&self) -> Program {
+        match self.is_tool {
+            true => tool(TOOL_BENCH),
+            false => program("ROSSINHIU_BENCH", "target/bin/bench", "rt ci", &[]),
+        }
+    }
+
+    pub fn list(&self) -> Program {
+        match self.is_tool {
+            true => tool(&["list"]),
+            false => program("ROSSINHIU_LIST", "target/bin/list", "rt ci", &[]),
+        }
+    }
+}
+
+/// The tool, with these words before a test's own.
+pub fn tool(words: &'static [&'static str]) -> Program {
+    let build = "rt staticlib capi, then cargo build --release -p rossinhiu-tool in host/";
+    program(
+        "ROSSINHIU_TOOL",
+        "host/target/release/rossinhiu",
+        build,
+        words,
+    )
+}
+
+fn program(variable: &str, name: &str, build: &str, words: &'static [&'static str]) -> Program {
+    let beside = top().join(name);
     let path = env::var_os(variable).map_or(beside, PathBuf::from);
     assert!(
         path.is_file(),
         "the program under test, `{name}`, is not there: {}\n\
-         Build it with `rt ci` in the product's folder, or name another in {variable}.",
+         Build it with `{build}`, or name another in {variable}.",
         path.display()
     );
-    fs::canonicalize(path).unwrap()
+    let path = fs::canonicalize(path).unwrap();
+    Program { path, words }
 }
 
-pub fn bench() -> PathBuf {
-    program("ROSSINHIU_BENCH", "bench")
+/// Each of these tests twice: of Rattle's programs and of the tool.
+#[macro_export]
+macro_rules! of_both {
+    ($($name:ident),* $(,)?) => {
+        mod rattle {
+            $(#[test] fn $name() { super::$name(&$crate::harness::Programs::RATTLE) })*
+        }
+        mod tool {
+            $(#[test] fn $name() { super::$name(&$crate::harness::Programs::TOOL) })*
+        }
+    };
 }
 
-pub fn list_program() -> PathBuf {
-    program("ROSSINHIU_LIST", "list")
+/// What can be started.
+pub trait Starts {
+    fn start(&self) -> Command;
+}
+
+impl Starts for Path {
+    fn start(&self) -> Command {
+        Command::new(self)
+    }
+}
+
+impl Starts for PathBuf {
+    fn start(&self) -> Command {
+        Command::new(self)
+    }
+}
+
+impl Starts for Program {
+    fn start(&self) -> Command {
+        let mut command = Command::new(&self.path);
+        command.args(self.words);
+        command
+    }
 }
 
 /// A number that the environment may set.
@@ -112,11 +192,26 @@ pub fn assert_file(path: &Path, expected: &[u8], about: &str) {
     }
 }
 
-/// What a run came to.
+/// What a run came to. The tool's summary stands by itself, and not with what else was said.
 pub struct Ran {
     pub out: Vec<u8>,
     pub err: Vec<u8>,
+    pub summary: String,
     pub status: ExitStatus,
+    is_tool: bool,
+}
+
+/// Whether an answer says that something was refused or malformed.
+fn is_refused(answer: &str) -> bool {
+    let words: Vec<&str> = answer.split(' ').collect();
+    let numbered = ["open", "offer", "ask", "back", "status", "restore"];
+    answer == "?" || (numbered.contains(&words[0]) && words[1] != "0")
+}
+
+/// The exit number that the tool owes for what it wrote, where nothing went wrong.
+pub fn exit_due(out: &[u8]) -> i32 {
+    let text = String::from_utf8_lossy(out);
+    i32::from(text.lines().any(is_refused))
 }
 
 impl Ran {
@@ -138,8 +233,16 @@ impl Ran {
         }
     }
 
-    /// No document speaks of exit numbers; a signal or a panic is none of them.
+    /// No document speaks of exit numbers of `bench` and `list`; a signal or a panic is none of them. The tool's are fixed.
     pub fn ended_by_itself(&self) {
+        if self.is_tool {
+            let due = if self.err.is_empty() {
+                exit_due(&self.out)
+            } else {
+                3
+            };
+            assert_eq!(self.status.code(), Some(due), "{}", self.said());
+        }
         assert!(
             !matches!(self.status.code(), None | Some(101)),
             "it broke off: {}; {}",
@@ -149,8 +252,8 @@ impl Ran {
     }
 }
 
-pub fn command(program: &Path, words: &[&Path]) -> Command {
-    let mut command = Command::new(program);
+pub fn command(program: &(impl Starts + ?Sized), words: &[&Path]) -> Command {
+    let mut command = program.start();
     command.args(words);
     command.stdin(Stdio::piped());
     command.stdout(Stdio::piped());
@@ -167,11 +270,17 @@ pub fn spawn(command: &mut Command) -> Child {
 /// Runs it with a file or a folder as standard input: what one read can bring does not depend on a sender.
 pub fn run_over(command: &mut Command, input: &Path) -> Ran {
     let input = fs::File::open(input).unwrap_or_else(|e| panic!("{}: {e}", input.display()));
-    gathered(spawn(command.stdin(input)))
+    let is_tool = is_tool(command);
+    gathered(spawn(command.stdin(input)), is_tool)
+}
+
+fn is_tool(command: &Command) -> bool {
+    Path::new(command.get_program()).ends_with("rossinhiu")
 }
 
 /// Sends the input, and gathers all that is written.
 pub fn run(command: &mut Command, input: &[u8]) -> Ran {
+    let is_tool = is_tool(command);
     let mut child = spawn(command.stdin(Stdio::piped()));
     let mut stdin = child.stdin.take().unwrap();
     let input = input.to_vec();
@@ -179,13 +288,13 @@ pub fn run(command: &mut Command, input: &[u8]) -> Ran {
     let sender = thread::spawn(move || {
         let _ = stdin.write_all(&input);
     });
-    let ran = gathered(child);
+    let ran = gathered(child, is_tool);
     let _ = sender.join();
     ran
 }
 
 /// All that it writes to its end.
-fn gathered(mut child: Child) -> Ran {
+fn gathered(mut child: Child, is_tool: bool) -> Ran {
     let mut err = child.stderr.take().unwrap();
     let errors = thread::spawn(move || {
         let mut bytes = Vec::new();
@@ -210,12 +319,30 @@ fn gathered(mut child: Child) -> Ran {
         thread::sleep(Duration::from_micros(300));
     };
     let out = answers.join().unwrap();
-    let err = errors.join().unwrap();
-    Ran { out, err, status }
+    let (err, summary) = parted(&errors.join().unwrap());
+    Ran {
+        out,
+        err,
+        summary,
+        status,
+        is_tool,
+    }
+}
+
+/// What was said on standard error, and the tool's summary.
+fn parted(said: &[u8]) -> (Vec<u8>, String) {
+    let (mut err, mut summary) = (Vec::new(), String::new());
+    for line in said.split_inclusive(|b| *b == b'\n') {
+        match line.starts_with(b"summary: ") {
+            true => summary += &String::from_utf8_lossy(line),
+            false => err.extend_from_slice(line),
+        }
+    }
+    (err, summary)
 }
 
 /// Plays lines over the file to the end, and holds all to the model.
-pub fn play_on(program: &Path, path: &Path, rng: &mut Rng, count: usize, about: &str) {
+pub fn play_on(program: &Program, path: &Path, rng: &mut Rng, count: usize, about: &str) {
     let mut model = FileConsole::over(&fs::read(path).unwrap());
     let steps = steps(rng, &mut model, count);
     let ran = run(&mut command(program, &[path]), &sent(&steps));
@@ -243,7 +370,12 @@ pub fn shim() -> &'static Path {
 }
 
 /// A program under the shim: what it logs, and the plans for calls that go wrong.
-pub fn shimmed(program: &Path, words: &[&Path], log: &Path, plan: &str) -> Command {
+pub fn shimmed(
+    program: &(impl Starts + ?Sized),
+    words: &[&Path],
+    log: &Path,
+    plan: &str,
+) -> Command {
     let mut command = command(program, words);
     command.env("LD_PRELOAD", shim());
     command.env("SHIM_LOG", log);

@@ -1,19 +1,33 @@
 //! The programs under test, held against the model from outside.
 //!
-//! `bench` is named by ROSSINHIU_BENCH, `list` by ROSSINHIU_LIST; else both are
-//! looked for beside this project, where the product's build puts them. Other
+//! `bench` is named by ROSSINHIU_BENCH, `list` by ROSSINHIU_LIST, the tool by
+//! ROSSINHIU_TOOL; else they are looked for where the builds put them. Other
 //! seeds run on request: ROSSINHIU_SEED is the first, ROSSINHIU_SCRIPTS how many.
 
 use rossinhiu_model::console::Console;
 use rossinhiu_model::generate::{script, spoil, Mood, Rng, Script, BADS, MOODS};
-use rossinhiu_model::harness::{bench, list_program, number, seed, turn, ANSWER_LIMIT, LIMIT};
+use rossinhiu_model::harness::{
+    exit_due, number, seed, turn, Program, Programs, Starts, ANSWER_LIMIT, LIMIT,
+};
 use rossinhiu_model::listing::list;
 use std::io::{BufRead, BufReader, Read, Write};
 use std::path::Path;
-use std::process::{Child, Command, Stdio};
+use std::process::{Child, Stdio};
 use std::sync::mpsc::{self, Receiver, Sender};
 use std::time::{Duration, Instant};
 use std::{fs, thread};
+
+rossinhiu_model::of_both! {
+    scripts_are_answered_as_the_model_does,
+    the_reach_script_is_answered_as_written,
+    the_whole_memory_is_room,
+    each_answer_comes_before_the_next_line,
+    a_begun_line_holds_no_answer_back,
+    the_size_of_writes_does_not_matter,
+    returns_before_newlines_do_not_matter,
+    journals_are_listed_as_the_model_does,
+    odd_bytes_are_listed_as_the_model_does,
+}
 
 const LINES: usize = 500;
 
@@ -23,23 +37,42 @@ fn seeds() -> std::ops::Range<u64> {
 
 // Running.
 
-fn start(program: &Path) -> Child {
-    Command::new(program)
-        .stdin(Stdio::piped())
-        .stdout(Stdio::piped())
-        .spawn()
-        .unwrap_or_else(|error| panic!("cannot start {}: {error}", program.display()))
+fn start(program: &Program) -> Child {
+    let mut command = program.start();
+    command.stdin(Stdio::piped()).stdout(Stdio::piped());
+    if is_tool(program) {
+        // A summary for each run.
+        command.stderr(Stdio::null());
+    }
+    let started = command.spawn();
+    started.unwrap_or_else(|error| panic!("cannot start {}: {error}", program.path.display()))
+}
+
+/// Only the tool has words before a test's own.
+fn is_tool(program: &Program) -> bool {
+    !program.words.is_empty()
+}
+
+/// The tool's exit number is due to what it wrote; a listing that ends at a bad record is a file's fault.
+fn assert_code(program: &Program, out: &[u8], code: i32) -> Result<(), String> {
+    let last = out.trim_ascii_end().rsplit(|b| *b == b'\n').next();
+    let is_bad = last.is_some_and(|line| line.starts_with(b"bad "));
+    let due = if is_bad { 3 } else { exit_due(out) };
+    match is_tool(program) && code != due {
+        true => Err(format!("exit number {code}, and {due} is due")),
+        false => Ok(()),
+    }
 }
 
 /// Waits for the end of a program whose standard output has ended.
-fn ended(child: &mut Child, until: Instant) -> Result<(), String> {
+fn ended(child: &mut Child, until: Instant) -> Result<i32, String> {
     loop {
         match child.try_wait() {
             Ok(Some(status)) => {
                 // No document speaks of exit numbers; a fault is none of them.
                 return match status.code() {
                     Some(101) | None => Err(format!("it broke off: {status}")),
-                    Some(_) => Ok(()),
+                    Some(code) => Ok(code),
                 };
             }
             Ok(None) if Instant::now() < until => thread::sleep(Duration::from_millis(1)),
@@ -53,7 +86,7 @@ fn ended(child: &mut Child, until: Instant) -> Result<(), String> {
 }
 
 /// Sends the pieces one write each, and gives back all of standard output.
-fn play(program: &Path, pieces: Vec<Vec<u8>>) -> Result<Vec<u8>, String> {
+fn play(program: &Program, pieces: Vec<Vec<u8>>) -> Result<Vec<u8>, String> {
     let until = Instant::now() + LIMIT;
     let mut child = start(program);
     let mut input = child.stdin.take().unwrap();
@@ -77,7 +110,10 @@ fn play(program: &Path, pieces: Vec<Vec<u8>>) -> Result<Vec<u8>, String> {
         let _ = tell.send(out);
     });
     match told.recv_timeout(LIMIT) {
-        Ok(out) => ended(&mut child, until).map(|()| out),
+        Ok(out) => {
+            assert_code(program, &out, ended(&mut child, until)?)?;
+            Ok(out)
+        }
         Err(_) => {
             let _ = child.kill();
             let _ = child.wait();
@@ -145,10 +181,9 @@ fn difference(script: &Script, got: &[u8]) -> Option<(usize, String)> {
     Some((script.lines.len(), report))
 }
 
-#[test]
-fn scripts_are_answered_as_the_model_does() {
+fn scripts_are_answered_as_the_model_does(programs: &Programs) {
     let _turn = turn();
-    let bench = bench();
+    let bench = programs.bench();
     let mut reports = Vec::new();
     let mut first = None;
     let (mut scripts, mut lines) = (0, 0);
@@ -181,13 +216,12 @@ fn scripts_are_answered_as_the_model_does() {
     println!("{scripts} scripts of {LINES} lines, {lines} lines in all");
 }
 
-#[test]
-fn the_reach_script_is_answered_as_written() {
+fn the_reach_script_is_answered_as_written(programs: &Programs) {
     let _turn = turn();
     let folder = Path::new(env!("CARGO_MANIFEST_DIR")).join("reach");
     let input = fs::read(folder.join("stdin")).expect("reach/stdin");
     let expected = fs::read(folder.join("stdout")).expect("reach/stdout");
-    let got = play(&bench(), vec![input]).unwrap_or_else(|trouble| panic!("{trouble}"));
+    let got = play(&programs.bench(), vec![input]).unwrap_or_else(|trouble| panic!("{trouble}"));
     let lines = |bytes: &[u8]| -> Vec<Vec<u8>> {
         let lines = bytes.split_inclusive(|b| *b == b'\n');
         lines.map(<[u8]>::to_vec).collect()
@@ -201,10 +235,9 @@ fn the_reach_script_is_answered_as_written() {
 }
 
 /// All 65,536 records of the journal in memory, and the listing of them.
-#[test]
-fn the_whole_memory_is_room() {
+fn the_whole_memory_is_room(programs: &Programs) {
     let _turn = turn();
-    let (bench, list_program) = (bench(), list_program());
+    let (bench, list_program) = (programs.bench(), programs.list());
     let gaps = "0 ".repeat(20);
     let mut input = String::new();
     for client in 0..65_400 {
@@ -241,7 +274,7 @@ struct Talk {
 }
 
 impl Talk {
-    fn new(program: &Path) -> Talk {
+    fn new(program: &Program) -> Talk {
         let mut child = start(program);
         let mut input = child.stdin.take().unwrap();
         let mut output = BufReader::new(child.stdout.take().unwrap());
@@ -305,10 +338,9 @@ impl Drop for Talk {
     }
 }
 
-#[test]
-fn each_answer_comes_before_the_next_line() {
+fn each_answer_comes_before_the_next_line(programs: &Programs) {
     let _turn = turn();
-    let bench = bench();
+    let bench = programs.bench();
     for seed in seeds().take(13) {
         let script = script(seed, 300);
         let mut talk = Talk::new(&bench);
@@ -328,10 +360,9 @@ fn each_answer_comes_before_the_next_line() {
 
 /// Several lines in one write, the next one begun but not ended: all answers of
 /// the whole lines come before the rest is sent.
-#[test]
-fn a_begun_line_holds_no_answer_back() {
+fn a_begun_line_holds_no_answer_back(programs: &Programs) {
     let _turn = turn();
-    let bench = bench();
+    let bench = programs.bench();
     for seed in seeds().take(13) {
         let script = script(seed, 300);
         let mut rng = Rng::new(seed);
@@ -376,10 +407,9 @@ fn pieces(bytes: &[u8], mut size: impl FnMut() -> usize) -> Vec<Vec<u8>> {
     pieces
 }
 
-#[test]
-fn the_size_of_writes_does_not_matter() {
+fn the_size_of_writes_does_not_matter(programs: &Programs) {
     let _turn = turn();
-    let bench = bench();
+    let bench = programs.bench();
     let malformed = MOODS.iter().position(|m| *m == Mood::Malformed).unwrap() as u64;
     let moods = MOODS.len() as u64;
     let base = seeds().start / moods * moods;
@@ -405,10 +435,9 @@ fn the_size_of_writes_does_not_matter() {
 }
 
 /// The same lines with returns before the newlines say the same.
-#[test]
-fn returns_before_newlines_do_not_matter() {
+fn returns_before_newlines_do_not_matter(programs: &Programs) {
     let _turn = turn();
-    let bench = bench();
+    let bench = programs.bench();
     for seed in seeds().take(6) {
         let script = script(seed, 300);
         let mut returned = Vec::new();
@@ -434,7 +463,7 @@ fn returns_before_newlines_do_not_matter() {
 
 // The listing.
 
-fn compare_listing(program: &Path, journal: &[u8], about: &str) {
+fn compare_listing(program: &Program, journal: &[u8], about: &str) {
     let expected = list(journal);
     let got = play(program, vec![journal.to_vec()]).unwrap_or_else(|t| panic!("{about}: {t}"));
     if got != expected {
@@ -454,10 +483,9 @@ fn compare_listing(program: &Path, journal: &[u8], about: &str) {
     }
 }
 
-#[test]
-fn journals_are_listed_as_the_model_does() {
+fn journals_are_listed_as_the_model_does(programs: &Programs) {
     let _turn = turn();
-    let program = list_program();
+    let program = programs.list();
     let mut made = [0; BADS.len()];
     let mut scripts = 0;
     for seed in seeds() {
@@ -493,10 +521,9 @@ fn journals_are_listed_as_the_model_does() {
     println!("{scripts} journals; ways to be bad: {made:?}");
 }
 
-#[test]
-fn odd_bytes_are_listed_as_the_model_does() {
+fn odd_bytes_are_listed_as_the_model_does(programs: &Programs) {
     let _turn = turn();
-    let program = list_program();
+    let program = programs.list();
     let mut rng = Rng::new(seeds().start);
     let lengths = [0, 1, 10, 63, 64, 65, 127, 128, 129, 4_096, 65_537];
     for length in lengths {
@@ -523,8 +550,14 @@ fn odd_bytes_are_listed_as_the_model_does() {
 #[test]
 #[ignore]
 fn the_listing_ends_at_the_record_limit() {
+    for programs in [Programs::RATTLE, Programs::TOOL] {
+        ends_at_the_record_limit(&programs);
+    }
+}
+
+fn ends_at_the_record_limit(programs: &Programs) {
     let _turn = turn();
-    let mut child = start(&list_program());
+    let mut child = start(&programs.list());
     let mut input = child.stdin.take().unwrap();
     let output = child.stdout.take().unwrap();
     thread::spawn(move || {

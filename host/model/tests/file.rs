@@ -15,6 +15,18 @@ use std::sync::{mpsc, Arc};
 use std::thread;
 use std::time::{Duration, Instant};
 
+rossinhiu_model::of_both! {
+    scripts_in_a_file_are_answered_as_the_model_does,
+    a_player_at_a_pipe_gets_each_answer,
+    each_start_goes_on,
+    an_answer_comes_after_its_record_is_durable,
+    a_failed_write_has_no_answer,
+    a_kill_at_each_call,
+    a_hundred_kills,
+    every_cut_restores,
+    a_full_disk,
+}
+
 /// The steps before the one that writes the n-th record, counted from 1.
 fn before_put(steps: &[Step], n: usize) -> usize {
     let places = steps.iter().enumerate().filter(|(_, s)| s.put.is_some());
@@ -29,10 +41,9 @@ fn loose(count: usize) -> Vec<u8> {
 // The text language.
 
 /// Scripts of every mood, played over a new file.
-#[test]
-fn scripts_in_a_file_are_answered_as_the_model_does() {
+fn scripts_in_a_file_are_answered_as_the_model_does(programs: &Programs) {
     let _turn = turn();
-    let (bench, folder) = (bench(), Folder::new());
+    let (bench, folder) = (programs.bench(), Folder::new());
     for seed in seed()..seed() + 2 * MOODS.len() as u64 {
         let path = folder.at(&format!("{seed}"));
         let script = script(seed, 400);
@@ -46,10 +57,9 @@ fn scripts_in_a_file_are_answered_as_the_model_does() {
     }
 }
 
-#[test]
-fn a_player_at_a_pipe_gets_each_answer() {
+fn a_player_at_a_pipe_gets_each_answer(programs: &Programs) {
     let _turn = turn();
-    let (bench, folder) = (bench(), Folder::new());
+    let (bench, folder) = (programs.bench(), Folder::new());
     let path = folder.at("journal");
     let mut rng = Rng::new(seed());
     let mut model = FileConsole::over(b"");
@@ -77,15 +87,16 @@ fn a_player_at_a_pipe_gets_each_answer() {
         }
     }
     drop(input);
-    assert!(child.wait().unwrap().success());
+    // Some of the lines are refused.
+    let code = if programs.is_tool() { 1 } else { 0 };
+    assert_eq!(child.wait().unwrap().code(), Some(code));
     assert_file(&path, &model.file, "after the talk");
 }
 
 /// Twenty starts over one file, each of which goes on where the last ended.
-#[test]
-fn each_start_goes_on() {
+fn each_start_goes_on(programs: &Programs) {
     let _turn = turn();
-    let (bench, folder) = (bench(), Folder::new());
+    let (bench, folder) = (programs.bench(), Folder::new());
     let path = folder.at("journal");
     let mut rng = Rng::new(seed() + 1);
     fs::write(&path, b"").unwrap();
@@ -93,7 +104,7 @@ fn each_start_goes_on() {
         play_on(&bench, &path, &mut rng, 50, &format!("start {start}"));
     }
     let bytes = fs::read(&path).unwrap();
-    let listed = run(&mut command(&list_program(), &[]), &bytes);
+    let listed = run(&mut command(&programs.list(), &[]), &bytes);
     assert!(listed.out == list(&bytes));
 }
 
@@ -147,10 +158,9 @@ fn assert_order(calls: &[Call], path: &Path, steps: &[Step]) {
     assert!(out == printed(steps).into_bytes());
 }
 
-#[test]
-fn an_answer_comes_after_its_record_is_durable() {
+fn an_answer_comes_after_its_record_is_durable(programs: &Programs) {
     let _turn = turn();
-    let (bench, folder) = (bench(), Folder::new());
+    let (bench, folder) = (programs.bench(), Folder::new());
     let mut rng = Rng::new(seed() + 2);
     let path = folder.at("journal");
     for round in 0..8 {
@@ -173,7 +183,7 @@ fn an_answer_comes_after_its_record_is_durable() {
 /// A run in which one call goes wrong: what was printed before it, what is said,
 /// what the file holds, and how the next start goes on.
 fn assert_broken(
-    (bench, folder): (&Path, &Folder),
+    (bench, folder): (&Program, &Folder),
     (steps, base): (&[Step], &[u8]),
     (plan, n, kept): (&str, usize, usize),
     killed: bool,
@@ -206,10 +216,9 @@ fn assert_broken(
     play_on(bench, &path, &mut rng, 15, plan);
 }
 
-#[test]
-fn a_failed_write_has_no_answer() {
+fn a_failed_write_has_no_answer(programs: &Programs) {
     let _turn = turn();
-    let (bench, folder) = (bench(), Folder::new());
+    let (bench, folder) = (programs.bench(), Folder::new());
     let mut rng = Rng::new(seed() + 3);
     for count in [0, 40] {
         let mut model = FileConsole::over(&loose(count));
@@ -218,7 +227,7 @@ fn a_failed_write_has_no_answer() {
         let most = puts(&steps).len().min(24);
         assert!(most > 10);
         for n in 1..=most {
-            let about = (bench.as_path(), &folder);
+            let about = (&bench, &folder);
             let given = (steps.as_slice(), base.as_slice());
             for kept in [0, 1, rng.between(2, 62) as usize, 63] {
                 let plan = format!("pwrite {n} short {kept}");
@@ -236,16 +245,15 @@ fn a_failed_write_has_no_answer() {
 }
 
 /// The process is killed at every moment of the way of a record.
-#[test]
-fn a_kill_at_each_call() {
+fn a_kill_at_each_call(programs: &Programs) {
     let _turn = turn();
-    let (bench, folder) = (bench(), Folder::new());
+    let (bench, folder) = (programs.bench(), Folder::new());
     let mut rng = Rng::new(seed() + 4);
     let mut model = FileConsole::over(&loose(13));
     let base = model.file.clone();
     let steps = steps(&mut rng, &mut model, 100);
     for n in 1..=puts(&steps).len().min(16) {
-        let about = (bench.as_path(), &folder);
+        let about = (&bench, &folder);
         let given = (steps.as_slice(), base.as_slice());
         for kept in [0, rng.between(1, 63) as usize, RECORD] {
             let plan = format!("pwrite {n} kill {kept}");
@@ -291,7 +299,7 @@ fn gather(mut output: impl Read, length: &AtomicUsize) -> Vec<u8> {
 /// Starts the program over the file, sends the pieces, and kills it once the
 /// file has a length, and a while after. What was printed.
 fn kill_at(
-    (program, path): (&Path, &Path),
+    (program, path): (&Program, &Path),
     (pieces, patient): (Vec<Vec<u8>>, bool),
     (length, wait): (u64, Duration),
 ) -> String {
@@ -343,7 +351,7 @@ fn records_kept(base: &[u8], steps: &[Step], got: &[u8], about: &str) -> usize {
 }
 
 /// One run, killed somewhere: its records that were answered, that are in the file, and that were to come in all.
-fn killed(bench: &Path, path: &Path, rng: &mut Rng, about: &str) -> [usize; 3] {
+fn killed(bench: &Program, path: &Path, rng: &mut Rng, about: &str) -> [usize; 3] {
     let base = fs::read(path).unwrap();
     let mut model = FileConsole::over(&base);
     let count = rng.between(30, 300) as usize;
@@ -364,10 +372,9 @@ fn killed(bench: &Path, path: &Path, rng: &mut Rng, about: &str) -> [usize; 3] {
     [answered(&steps, &out), kept, puts.len()]
 }
 
-#[test]
-fn a_hundred_kills() {
+fn a_hundred_kills(programs: &Programs) {
     let _turn = turn();
-    let (bench, folder) = (bench(), Folder::new());
+    let (bench, folder) = (programs.bench(), Folder::new());
     let path = folder.at("journal");
     let mut rng = Rng::new(seed() + 5);
     let (mut under_way, mut ahead, mut spoken, mut cuts) = (0, 0, 0, 0);
@@ -393,7 +400,7 @@ fn a_hundred_kills() {
     }
     play_on(&bench, &path, &mut rng, 100, "after the kills");
     let bytes = fs::read(&path).unwrap();
-    let listed = run(&mut command(&list_program(), &[]), &bytes);
+    let listed = run(&mut command(&programs.list(), &[]), &bytes);
     assert!(listed.out == list(&bytes));
     println!(
         "100 kills: {under_way} between the first record and the last, {spoken} after an answer, \
@@ -404,10 +411,9 @@ fn a_hundred_kills() {
 }
 
 /// A file cut at every byte of its last record.
-#[test]
-fn every_cut_restores() {
+fn every_cut_restores(programs: &Programs) {
     let _turn = turn();
-    let (bench, folder) = (bench(), Folder::new());
+    let (bench, folder) = (programs.bench(), Folder::new());
     let path = folder.at("journal");
     let mut rng = Rng::new(seed() + 6);
     let mut model = FileConsole::over(b"");
@@ -432,10 +438,9 @@ extern "C" {
 
 /// The system itself lets no file grow beyond so many bytes: the write that
 /// reaches the limit comes short, or fails with nothing written.
-#[test]
-fn a_full_disk() {
+fn a_full_disk(programs: &Programs) {
     let _turn = turn();
-    let (bench, folder) = (bench(), Folder::new());
+    let (bench, folder) = (programs.bench(), Folder::new());
     let mut rng = Rng::new(seed() + 8);
     for limit in [0, 40, 64, 200, 640, 999] {
         let path = folder.at(&format!("journal{limit}"));

@@ -12,6 +12,10 @@ use rossinhiu_model::model::RECORD;
 use std::fs;
 use std::path::PathBuf;
 
+rossinhiu_model::of_both! {
+    nothing_told_is_lost,
+}
+
 /// What came about: a test in which too little does shows nothing.
 #[derive(Debug, Default)]
 struct Seen {
@@ -28,6 +32,7 @@ struct Seen {
 
 /// One journal, on one disk.
 struct Lab<'a> {
+    bench: Program,
     rng: Rng,
     folder: Folder,
     path: PathBuf,
@@ -37,7 +42,7 @@ struct Lab<'a> {
 }
 
 impl<'a> Lab<'a> {
-    fn new(seed: u64, seen: &'a mut Seen) -> Lab<'a> {
+    fn new(bench: Program, seed: u64, seen: &'a mut Seen) -> Lab<'a> {
         let mut rng = Rng::new(seed);
         let folder = Folder::new();
         let path = folder.at("journal");
@@ -59,6 +64,7 @@ impl<'a> Lab<'a> {
         }
         disk.to_file();
         Lab {
+            bench,
             rng,
             folder,
             path,
@@ -120,7 +126,10 @@ impl<'a> Lab<'a> {
         let plan = self.plan(trace);
         fs::write(&input, sent(trace)).unwrap();
         fs::write(&log, b"").unwrap();
-        let ran = run_over(&mut shimmed(&bench(), &[&self.path], &log, &plan), &input);
+        let ran = run_over(
+            &mut shimmed(&self.bench, &[&self.path], &log, &plan),
+            &input,
+        );
         self.disk.play(&calls(&log));
         let about = format!("{about}, {plan}");
         self.disk.assert_file(&about);
@@ -180,8 +189,7 @@ impl<'a> Lab<'a> {
     }
 }
 
-#[test]
-fn nothing_told_is_lost() {
+fn nothing_told_is_lost(programs: &Programs) {
     let _turn = turn();
     let mut seen = Seen::default();
     let mut rng = Rng::new(seed());
@@ -189,7 +197,7 @@ fn nothing_told_is_lost() {
     let (mut played, mut journals) = (0, 0);
     while played < rounds {
         let seed = seed() + journals;
-        let mut lab = Lab::new(seed, &mut seen);
+        let mut lab = Lab::new(programs.bench(), seed, &mut seen);
         for _ in 0..rng.between(1, 12).min(rounds - played) {
             played += 1;
             lab.round(&format!("journal {seed}, start {played}"));

@@ -9,10 +9,19 @@ use rossinhiu_model::model::RECORD;
 use std::fs;
 use std::path::Path;
 
+rossinhiu_model::of_both! {
+    a_failed_read_plays_whole_lines_only,
+    a_folder_is_no_input,
+    interrupted_and_short_reads_change_nothing,
+    a_failed_read_breaks_the_listing_off,
+    a_last_line_without_newline_is_not_played,
+    a_cut_trace_leaves_the_session_of_its_whole_lines,
+}
+
 /// Plays an input under these plans, in memory or over a file of these bytes.
 /// What is printed, and the file, are the model's for the part that counts.
 fn assert_played(
-    folder: &Folder,
+    (programs, folder): (&Programs, &Folder),
     base: Option<&[u8]>,
     plan: &str,
     (input, counts): (&[u8], &[u8]),
@@ -29,7 +38,7 @@ fn assert_played(
         expected.insert_str(0, "restore 0 0\n");
     }
     let log = folder.at("log");
-    let ran = run_over(&mut shimmed(&bench(), &words, &log, plan), &source);
+    let ran = run_over(&mut shimmed(&programs.bench(), &words, &log, plan), &source);
     ran.ended_by_itself();
     assert_eq!(ran.text(), expected, "{plan}");
     if base.is_some() {
@@ -49,8 +58,7 @@ const UNREAD: [&str; 2] = ["standard input can't be read", "Input/output error"]
 
 /// A read that fails is not the end: a line under way may go on, as the last gap
 /// of an opening, 32, of which only the 3 came.
-#[test]
-fn a_failed_read_plays_whole_lines_only() {
+fn a_failed_read_plays_whole_lines_only(programs: &Programs) {
     let _turn = turn();
     let folder = Folder::new();
     let base = base();
@@ -70,27 +78,26 @@ fn a_failed_read_plays_whole_lines_only() {
             }
         };
         for base in [None, Some(base.as_slice())] {
-            let ran = assert_played(&folder, base, &plan, (input, whole));
+            let ran = assert_played((programs, &folder), base, &plan, (input, whole));
             ran.told(&UNREAD, &plan);
         }
     }
 }
 
-#[test]
-fn a_folder_is_no_input() {
+fn a_folder_is_no_input(programs: &Programs) {
     let _turn = turn();
     let folder = Folder::new();
     let path = folder.at("journal");
     let words = ["standard input can't be read", "Is a directory"];
     let started = [(vec![], ""), (vec![path.as_path()], "restore 0 0\n")];
     for (name, printed) in started {
-        let ran = run_over(&mut command(&bench(), &name), &folder.0);
+        let ran = run_over(&mut command(&programs.bench(), &name), &folder.0);
         ran.ended_by_itself();
         assert_eq!(ran.text(), printed);
         ran.told(&words, "bench");
     }
     assert_file(&path, b"", "a folder as input");
-    let ran = run_over(&mut command(&list_program(), &[]), &folder.0);
+    let ran = run_over(&mut command(&programs.list(), &[]), &folder.0);
     ran.ended_by_itself();
     assert_eq!(ran.text(), "", "no end, for nothing was read");
     ran.told(&words, "list");
@@ -109,8 +116,7 @@ fn disturbed(rng: &mut Rng, call: &str, most: u64) -> String {
 }
 
 /// However the bytes come, and however often a signal comes between, the output is the same.
-#[test]
-fn interrupted_and_short_reads_change_nothing() {
+fn interrupted_and_short_reads_change_nothing(programs: &Programs) {
     let _turn = turn();
     let folder = Folder::new();
     let (base, log) = (base(), folder.at("log"));
@@ -122,25 +128,24 @@ fn interrupted_and_short_reads_change_nothing() {
             0 => "read 1 errno 4".to_string(),
             _ => disturbed(&mut rng, "read", most),
         };
-        let ran = assert_played(&folder, None, &plan, (&script, &script));
+        let ran = assert_played((programs, &folder), None, &plan, (&script, &script));
         assert_eq!(ran.said(), "", "{plan}");
         let plan = match round {
             0 => "pread 1 errno 4;pread 2 errno 4;read 2 errno 4".to_string(),
             _ => disturbed(&mut rng, "pread", most),
         };
-        let ran = assert_played(&folder, Some(&base), &plan, (&script, &script));
+        let ran = assert_played((programs, &folder), Some(&base), &plan, (&script, &script));
         assert_eq!(ran.said(), "", "{plan}");
         let plan = disturbed(&mut rng, "read", most);
         let (source, expected) = (folder.at("journal"), fs::read(folder.at("journal")));
-        let ran = run_over(&mut shimmed(&list_program(), &[], &log, &plan), &source);
+        let ran = run_over(&mut shimmed(&programs.list(), &[], &log, &plan), &source);
         assert!(ran.out == list(&expected.unwrap()), "{plan}");
         assert_eq!(ran.said(), "", "{plan}");
     }
 }
 
 /// The lines of the whole records that came, and no end: the journal goes on.
-#[test]
-fn a_failed_read_breaks_the_listing_off() {
+fn a_failed_read_breaks_the_listing_off(programs: &Programs) {
     let _turn = turn();
     let folder = Folder::new();
     let (source, log) = (folder.at("journal"), folder.at("log"));
@@ -161,7 +166,7 @@ fn a_failed_read_breaks_the_listing_off() {
         ("read 2 short 6400;read 3 errno 5", 71_936),
     ] {
         let _ = fs::remove_file(&log);
-        let ran = run_over(&mut shimmed(&list_program(), &[], &log, plan), &source);
+        let ran = run_over(&mut shimmed(&programs.list(), &[], &log, plan), &source);
         ran.ended_by_itself();
         let calls = calls(&log);
         let reads = calls.iter().filter(|c| c.name == "read" && c.result > 0);
@@ -188,8 +193,7 @@ fn last_lines() -> Vec<String> {
 }
 
 /// It was cut short: it prints `?`, whatever it says, and is not played.
-#[test]
-fn a_last_line_without_newline_is_not_played() {
+fn a_last_line_without_newline_is_not_played(programs: &Programs) {
     let _turn = turn();
     let folder = Folder::new();
     let base = base();
@@ -201,7 +205,7 @@ fn a_last_line_without_newline_is_not_played() {
             let half = format!("read 1 short {}", both.len() - last.len() / 2);
             for (input, plan) in [(&last, ""), (&both, &half)] {
                 let input = input.as_bytes();
-                let ran = assert_played(&folder, base, plan, (input, input));
+                let ran = assert_played((programs, &folder), base, plan, (input, input));
                 assert!(ran.text().ends_with("?\n"), "{last:?}");
                 assert_eq!(ran.said(), "", "{last:?}");
             }
@@ -210,10 +214,9 @@ fn a_last_line_without_newline_is_not_played() {
 }
 
 /// The next start finds the session that the whole lines left.
-#[test]
-fn a_cut_trace_leaves_the_session_of_its_whole_lines() {
+fn a_cut_trace_leaves_the_session_of_its_whole_lines(programs: &Programs) {
     let _turn = turn();
-    let (bench, folder) = (bench(), Folder::new());
+    let (bench, folder) = (programs.bench(), Folder::new());
     let path = folder.at("journal");
     let mut model = FileConsole::over(b"");
     let steps = steps(&mut Rng::new(seed() + 3), &mut model, 4);

@@ -12,6 +12,20 @@ use std::os::unix::process::CommandExt;
 use std::path::Path;
 use std::process::Command;
 
+rossinhiu_model::of_both! {
+    a_start_is_durable_before_it_is_shown,
+    a_start_that_cannot_be_made_durable,
+    a_folder_is_left_alone,
+    a_file_that_may_not_be_written_is_left_alone,
+    a_file_that_is_too_long_is_left_alone,
+    a_full_journal_restores,
+    a_bad_record_is_left_alone,
+    a_file_that_is_no_journal_is_left_alone,
+    what_cannot_be_made_read_or_named,
+    a_closed_standard_descriptor,
+    a_small_stack,
+}
+
 fn one_opening() -> Vec<u8> {
     let opening = Opening {
         ratio: 4,
@@ -61,10 +75,9 @@ fn assert_durable_start(calls: &[Call], name: &Path, folder: &str, line: &str) {
     assert_eq!(order, expected);
 }
 
-#[test]
-fn a_start_is_durable_before_it_is_shown() {
+fn a_start_is_durable_before_it_is_shown(programs: &Programs) {
     let _turn = turn();
-    let (bench, folder) = (bench(), Folder::new());
+    let (bench, folder) = (programs.bench(), Folder::new());
     let held = folder.0.to_str().unwrap();
     let mut cut = played(seed(), 40);
     cut.truncate(cut.len() - 10);
@@ -102,10 +115,9 @@ fn a_start_is_durable_before_it_is_shown() {
 }
 
 /// A sync of the start that fails: nothing is shown or played, and the file is as it was.
-#[test]
-fn a_start_that_cannot_be_made_durable() {
+fn a_start_that_cannot_be_made_durable(programs: &Programs) {
     let _turn = turn();
-    let (bench, folder) = (bench(), Folder::new());
+    let (bench, folder) = (programs.bench(), Folder::new());
     let (path, log) = (folder.at("journal"), folder.at("log"));
     let bad = vec![0; 100];
     for bytes in [vec![], vec![0; 3], played(seed(), 300), bad] {
@@ -150,20 +162,18 @@ fn assert_left_alone(command: &mut Command, path: &Path, out: &str, words: &[&st
     assert_eq!(stamp(&before), stamp(&after));
 }
 
-#[test]
-fn a_folder_is_left_alone() {
+fn a_folder_is_left_alone(programs: &Programs) {
     let _turn = turn();
     let folder = Folder::new();
     let path = folder.at("folder");
     fs::create_dir(&path).unwrap();
     fs::write(path.join("inside"), b"kept").unwrap();
     let words = ["can't be opened", "no folder", "Is a directory"];
-    assert_left_alone(&mut command(&bench(), &[&path]), &path, "", &words);
+    assert_left_alone(&mut command(&programs.bench(), &[&path]), &path, "", &words);
     assert_eq!(fs::read(path.join("inside")).unwrap(), b"kept");
 }
 
-#[test]
-fn a_file_that_may_not_be_written_is_left_alone() {
+fn a_file_that_may_not_be_written_is_left_alone(programs: &Programs) {
     let _turn = turn();
     let folder = Folder::new();
     fs::set_permissions(&folder.0, fs::Permissions::from_mode(0o755)).unwrap();
@@ -171,9 +181,11 @@ fn a_file_that_may_not_be_written_is_left_alone() {
     fs::write(&path, one_opening()).unwrap();
     fs::set_permissions(&path, fs::Permissions::from_mode(0o444)).unwrap();
     // Root may write what nobody may, so the program runs as nobody, from where nobody reaches it.
-    let program = folder.at("bench");
-    fs::copy(bench(), &program).unwrap();
-    fs::set_permissions(&program, fs::Permissions::from_mode(0o755)).unwrap();
+    let mut program = programs.bench();
+    let copy = folder.at(program.path.file_name().unwrap().to_str().unwrap());
+    fs::copy(&program.path, &copy).unwrap();
+    fs::set_permissions(&copy, fs::Permissions::from_mode(0o755)).unwrap();
+    program.path = copy;
     let mut as_nobody = command(&program, &[&path]);
     let is_root = fs::metadata(&path).unwrap().uid() == 0;
     if is_root {
@@ -187,13 +199,12 @@ fn a_file_that_may_not_be_written_is_left_alone() {
         println!("nobody can't be had here: only the read-only file system is tried");
     }
     let log = folder.at("log");
-    let mut read_only = shimmed(&bench(), &[&path], &log, "open 1 errno 30");
+    let mut read_only = shimmed(&programs.bench(), &[&path], &log, "open 1 errno 30");
     let words = ["can't be opened", "may write", "Read-only file system"];
     assert_left_alone(&mut read_only, &path, "", &words);
 }
 
-#[test]
-fn a_file_that_is_too_long_is_left_alone() {
+fn a_file_that_is_too_long_is_left_alone(programs: &Programs) {
     let _turn = turn();
     let folder = Folder::new();
     let path = folder.at("journal");
@@ -201,12 +212,11 @@ fn a_file_that_is_too_long_is_left_alone() {
     bytes.push(0);
     fs::write(&path, &bytes).unwrap();
     let words = ["longer than 4194304 bytes", "another file"];
-    assert_left_alone(&mut command(&bench(), &[&path]), &path, "", &words);
+    assert_left_alone(&mut command(&programs.bench(), &[&path]), &path, "", &words);
 }
 
 /// Just as many bytes as the memory has: it restores, and there is no room.
-#[test]
-fn a_full_journal_restores() {
+fn a_full_journal_restores(programs: &Programs) {
     let _turn = turn();
     let folder = Folder::new();
     let path = folder.at("journal");
@@ -216,7 +226,7 @@ fn a_full_journal_restores() {
         "status\n{}\noffer ACT 0 0 0\nback\nask ACT 0 0\n",
         opening_a()
     );
-    let ran = run(&mut command(&bench(), &[&path]), input.as_bytes());
+    let ran = run(&mut command(&programs.bench(), &[&path]), input.as_bytes());
     let expected =
         "restore 0 0\nstatus 0 7 65535 0 0 0 65536\nopen 9\noffer 9 0 0\nback 8\nask 0 0 0\n";
     assert_eq!(ran.text(), expected);
@@ -224,7 +234,7 @@ fn a_full_journal_restores() {
     assert_file(&path, &bytes, "a full journal");
     // The last record's place is still to be had.
     fs::write(&path, &bytes[..JOURNAL - 1]).unwrap();
-    let ran = run(&mut command(&bench(), &[&path]), input.as_bytes());
+    let ran = run(&mut command(&programs.bench(), &[&path]), input.as_bytes());
     let expected =
         "restore 0 0\nstatus 0 7 65534 0 0 0 65535\nopen 0\noffer 9 0 0\nback 8\nask 0 0 0\n";
     assert_eq!(ran.text(), expected);
@@ -237,7 +247,7 @@ const ZEROS: &str = "It and all behind it is 0, so most likely its write was und
 const OTHERS: &str = "Other bytes follow it, so most likely the file was damaged";
 
 /// What a person is told of a bad record: the likely case, and what to do in each. Cut as it says, the file restores.
-fn assert_bad(bench: &Path, path: &Path, at: usize, likely: &str) {
+fn assert_bad(bench: &Program, path: &Path, at: usize, likely: &str) {
     let out = format!("restore 11 {at}\n");
     let cut_to = RECORD * at;
     let named = format!("record {at} is bad");
@@ -250,10 +260,9 @@ fn assert_bad(bench: &Path, path: &Path, at: usize, likely: &str) {
     play_on(bench, path, &mut Rng::new(at as u64), 5, "after the cut");
 }
 
-#[test]
-fn a_bad_record_is_left_alone() {
+fn a_bad_record_is_left_alone(programs: &Programs) {
     let _turn = turn();
-    let (bench, folder) = (bench(), Folder::new());
+    let (bench, folder) = (programs.bench(), Folder::new());
     let path = folder.at("journal");
     let good = played(seed() + 7, 60);
     let last = good.len() / RECORD - 1;
@@ -280,10 +289,9 @@ fn a_bad_record_is_left_alone() {
 }
 
 /// A file without a whole record: it is taken if it begins as an opening does, or with the zeros of a lost write.
-#[test]
-fn a_file_that_is_no_journal_is_left_alone() {
+fn a_file_that_is_no_journal_is_left_alone(programs: &Programs) {
     let _turn = turn();
-    let (bench, folder) = (bench(), Folder::new());
+    let (bench, folder) = (programs.bench(), Folder::new());
     let path = folder.at("journal");
     let text = b"Dear laboratory,\nthis is a letter, and no journal of a bench.\n\n";
     let mut rng = Rng::new(seed() + 9);
@@ -312,10 +320,9 @@ fn a_file_that_is_no_journal_is_left_alone() {
     }
 }
 
-#[test]
-fn what_cannot_be_made_read_or_named() {
+fn what_cannot_be_made_read_or_named(programs: &Programs) {
     let _turn = turn();
-    let (bench, folder) = (bench(), Folder::new());
+    let (bench, folder) = (programs.bench(), Folder::new());
     let missing = folder.at("missing/journal");
     let ran = run(&mut command(&bench, &[&missing]), b"status\n");
     assert_eq!(ran.text(), "");
@@ -339,16 +346,16 @@ fn what_cannot_be_made_read_or_named() {
 
 /// Where a standard descriptor is closed the file would take its number, and
 /// answers would be written over records.
-#[test]
-fn a_closed_standard_descriptor() {
+fn a_closed_standard_descriptor(programs: &Programs) {
     let _turn = turn();
-    let (bench, folder) = (bench(), Folder::new());
+    let (bench, folder) = (programs.bench(), Folder::new());
     let path = folder.at("journal");
     fs::write(&path, one_opening()).unwrap();
     for closed in ["<&-", ">&-", "2>&-", "<&- >&-", "<&- >&- 2>&-"] {
         let mut shell = command(Path::new("sh"), &[]);
-        let line = format!("exec \"$0\" \"$1\" {closed}");
-        shell.args(["-c", &line]).args([&bench, &path]);
+        let line = format!("exec \"$0\" \"$@\" {closed}");
+        shell.args(["-c", &line]).arg(&bench.path);
+        shell.args(bench.words).arg(&path);
         let ran = run(&mut shell, format!("{}\nstatus\n", opening_a()).as_bytes());
         ran.ended_by_itself();
         assert_eq!(ran.text(), "", "{closed}");
@@ -360,23 +367,25 @@ fn a_closed_standard_descriptor() {
 
 // The stack.
 
-/// The journal lies on the stack. Where that may not grow as far, the program says so; the system would end it without a word.
-#[test]
-fn a_small_stack() {
+/// The journal of `bench` lies on the stack. Where that may not grow as far, the program says so; the system would end it without a
+/// word. The tool's does not.
+fn a_small_stack(programs: &Programs) {
     let _turn = turn();
-    let (bench, folder) = (bench(), Folder::new());
+    let (bench, folder) = (programs.bench(), Folder::new());
     let path = folder.at("journal");
     let input = format!("{}\nstatus\n", opening_a());
     for (kilobytes, name) in [1024, 4096, 6143, 8192]
         .into_iter()
         .flat_map(|k| [(k, None), (k, Some(&path))])
     {
+        let _ = fs::remove_file(&path);
         let mut shell = command(Path::new("sh"), &[]);
         let line = format!("ulimit -s {kilobytes} && exec \"$0\" \"$@\"");
-        shell.args(["-c", &line]).arg(&bench).args(name);
+        shell.args(["-c", &line]).arg(&bench.path);
+        shell.args(bench.words).args(name);
         let ran = run(&mut shell, input.as_bytes());
         ran.ended_by_itself();
-        if kilobytes < 6144 {
+        if kilobytes < 6144 && !programs.is_tool() {
             assert_eq!(ran.text(), "", "{kilobytes}");
             let words = ["stack", "6144", "type: ulimit -s 8192"];
             ran.told(&words, &format!("{kilobytes}"));
