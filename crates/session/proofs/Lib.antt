@@ -1,3 +1,3 @@
-pub mod Fill
 pub mod RepLaws
+pub mod RoundedLaws
 pub mod StoreLaws

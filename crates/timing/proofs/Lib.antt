@@ -1,4 +1,5 @@
 pub mod AskLaws
+pub mod Fill
 pub mod KindLaws
 pub mod Legal
 pub mod Lookup

@@ -5,7 +5,7 @@ use lib.ListN.{take, length, length-set}
 use native.Mathlib.Omega.{arith}
 use Rattle.timing.proofs.TableLaws.{gap-low, class-low}
 use Rattle.scan.specs.Scan.{stepsTo}
-use Rattle.session.proofs.Fill.{fill-more, fill-all}
+use Rattle.timing.proofs.Fill.{fill-more, fill-all}
 use Rattle.scan.proofs.StepLaws.{steps-size, steps-at, steps-below, step-from}
 use borrow.Author.Needs.{needs}
 use Rattle.scan.proofs.earliest.steps.Statement.{statement}

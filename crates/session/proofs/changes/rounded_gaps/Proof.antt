@@ -5,8 +5,9 @@ use lib.ListN.{take, length, length-set}
 use native.Mathlib.Omega.{arith}
 use borrow.Author.Needs.{needs}
 use Rattle.timing.specs.Clocks.{cycles, roundedUp}
+use Rattle.timing.proofs.Fill.{fill-more, fill-all}
 use Rattle.session.specs.State.{roundedGaps}
-use Rattle.session.proofs.Fill.{fill-more, fill-all, rounded-size, rounded-at}
+use Rattle.session.proofs.RoundedLaws.{rounded-size, rounded-at}
 use Rattle.session.proofs.changes.rounded_gaps.Statement.{statement}
 use Rattle.session.proofs.changes.rounded_gaps.Tie as tie
 
