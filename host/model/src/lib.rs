@@ -1,4 +1,4 @@
-//! An independent program for document 01 and the bench console, held against the product from outside: a naive model, the listing,
+//! An independent program for document 01, request 2026-01 and the bench console, held against the product from outside: a naive model, the listing,
 //! the console over the model, a maker of scripts, and what runs the programs.
 
 pub mod console;
@@ -8,3 +8,4 @@ pub mod generate;
 pub mod harness;
 pub mod listing;
 pub mod model;
+pub mod sheet;
