@@ -1,6 +1,7 @@
 //! The console's text language over the model, the journal's memory with it.
 
 use crate::model::{Answer, Command, State, NAMES};
+use crate::sheet::Sheet;
 
 /// Bytes of the journal in memory.
 pub const JOURNAL: usize = 4_194_304;
@@ -59,6 +60,18 @@ fn hexadecimal(bytes: &[u8]) -> String {
         text.push(digit(byte & 15));
     }
     text
+}
+
+/// A tCK and twenty times.
+fn sheet(words: &[&[u8]]) -> Option<Sheet> {
+    let mut numbers = Vec::new();
+    for word in words {
+        numbers.push(long(word)?);
+    }
+    let numbers: [u64; 21] = numbers.try_into().ok()?;
+    let times = std::array::from_fn(|i| numbers[i + 1]);
+    let tck = numbers[0];
+    Some(Sheet { tck, times })
 }
 
 fn with_place(word: &str, answer: Answer) -> String {
@@ -196,6 +209,8 @@ impl Console {
                     _ => format!("bytes {}", hexadecimal(&self.journal[from..from + count])),
                 })
             }
+            // It sees neither the state nor the journal, so it is the same in a file.
+            (b"gaps", numbers) => Some(sheet(numbers)?.answer().to_string()),
             _ => None,
         }
     }
@@ -286,5 +301,127 @@ mod tests {
         assert_eq!(printed(b"bytes 4194305 0\n"), "?\n");
         assert_eq!(printed(b"bytes 4194303 1\n"), "bytes 00\n");
         assert_eq!(printed(b"bytes 1 18446744073709551615\n"), "?\n");
+    }
+
+    /// Twenty times, the first ones given, zeros behind.
+    fn gaps_line(tck: &str, times: &[&str]) -> String {
+        let mut words = vec!["gaps", tck];
+        words.extend(times);
+        words.resize(22, "0");
+        words.join(" ")
+    }
+
+    fn one_line(line: &str) -> String {
+        printed(format!("{line}\n").as_bytes())
+    }
+
+    #[test]
+    fn gaps_are_told() {
+        let zeros = |count| " 0".repeat(count);
+        for (tck, times, told) in [
+            (
+                "625",
+                vec!["26250", "26251"],
+                format!("0 0 42 43{}", zeros(18)),
+            ),
+            ("000625", vec!["0026250"], format!("0 0 42{}", zeros(19))),
+            (
+                "65537",
+                vec!["4294967295"],
+                format!("0 0 65535{}", zeros(19)),
+            ),
+            ("0", vec!["1"], format!("13 0{}", zeros(20))),
+            ("1000001", vec!["65536"], format!("13 0{}", zeros(20))),
+            ("18446744073709551615", vec![], format!("13 0{}", zeros(20))),
+            ("1", vec!["65535", "65536"], format!("14 2{}", zeros(20))),
+            ("1000000", vec!["4294967296"], format!("14 1{}", zeros(20))),
+            (
+                "1",
+                vec!["1", "1", "18446744073709551615"],
+                format!("14 3{}", zeros(20)),
+            ),
+        ] {
+            let line = gaps_line(tck, &times);
+            assert_eq!(one_line(&line), format!("gaps {told}\n"), "{line}");
+        }
+    }
+
+    /// A line that is not of the form is no refusal, whatever its tCK.
+    #[test]
+    fn gaps_that_are_malformed() {
+        let zeros = |count| " 0".repeat(count);
+        for tck in ["625", "0", "1000001"] {
+            for count in (0..20).chain(21..45) {
+                assert_eq!(one_line(&format!("gaps {tck}{}", zeros(count))), "?\n");
+            }
+            for word in [
+                "18446744073709551616",
+                "-1",
+                "+1",
+                "1.0",
+                "1,000",
+                "0x1",
+                "RD",
+                "#",
+            ] {
+                for at in 0..20 {
+                    let line = format!("gaps {tck}{} {word}{}", zeros(at), zeros(19 - at));
+                    assert_eq!(one_line(&line), "?\n", "{line}");
+                }
+                assert_eq!(one_line(&gaps_line(word, &[])), "?\n", "{word}");
+            }
+        }
+        for front in ["gaps", "Gaps 625", "gap 625", "gaps625 0", "\u{b}gaps 625"] {
+            let line = format!("{front}{}", zeros(20));
+            assert_eq!(one_line(&line), "?\n", "{line}");
+        }
+        assert_eq!(printed(gaps_line("625", &[]).as_bytes()), "?\n");
+    }
+
+    #[test]
+    fn gaps_with_blanks_and_zeros() {
+        let told = format!("gaps 0 0{}\n", " 1".repeat(20));
+        let front = format!("\tgaps  625{}", " \t 1".repeat(19));
+        assert_eq!(printed(format!("{front} 625 \r\n").as_bytes()), told);
+        let of = |length: usize| format!("{front} {:0>1$}", 1, length - front.len() - 1);
+        assert_eq!(of(4096).len(), 4096);
+        assert_eq!(one_line(&of(4096)), told);
+        assert_eq!(one_line(&of(4097)), "?\n");
+        assert_eq!(printed(format!("{}\r\n", of(4096)).as_bytes()), "?\n");
+    }
+
+    /// Without a session, in one, without room: nothing is asked of it and nothing changes.
+    #[test]
+    fn gaps_ask_nothing_of_the_session() {
+        for in_file in [false, true] {
+            let mut console = Console::new();
+            console.in_file = in_file;
+            let opening = crate::generate::opening_a();
+            for line in ["status", &opening, "offer ACT 0 0 0", "back", "lend 0"] {
+                console.line(line.as_bytes(), true);
+                let before = (console.state.clone(), console.journal.clone());
+                for (tck, number) in [("625", "0 0"), ("0", "13 0"), ("1", "14 1")] {
+                    let line = gaps_line(tck, &["65536"]);
+                    let answer = console.line(line.as_bytes(), true).unwrap();
+                    assert!(answer.starts_with(&format!("gaps {number} ")), "{line}");
+                }
+                assert!(before == (console.state.clone(), console.journal.clone()));
+                assert_eq!(console.lent, if line == "lend 0" { 0 } else { JOURNAL });
+            }
+        }
+    }
+
+    /// What is told is an opening's gaps as it stands.
+    #[test]
+    fn an_opening_takes_what_gaps_told() {
+        let mut console = Console::new();
+        let line = gaps_line("625", &["0", "1", "26250", "26251", "40959375"]);
+        let answer = console.line(line.as_bytes(), true).unwrap();
+        let told = answer.strip_prefix("gaps 0 0 ").unwrap();
+        let opening = format!("open 4 1 0 7 {told}");
+        assert_eq!(console.line(opening.as_bytes(), true).unwrap(), "open 0");
+        let mut gaps = [0; 20];
+        gaps[..5].copy_from_slice(&[0, 1, 42, 43, 65_535]);
+        assert_eq!(console.state.session().unwrap().1.gaps, gaps);
     }
 }
