@@ -199,7 +199,7 @@ const EDGES: [u64; 44] = [
 ];
 
 /// Numbers beyond 64 bits; some come out small if they are let wrap.
-const TOO_LARGE: [&str; 9] = [
+pub const TOO_LARGE: [&str; 9] = [
     "18446744073709551616",
     "18446744073709551617",
     "18446744073709551620",

@@ -9,3 +9,4 @@ pub mod harness;
 pub mod listing;
 pub mod model;
 pub mod sheet;
+pub mod sheet_calls;
