@@ -7,6 +7,10 @@ use crate::model::{
     bytes_of, Command, Record, State, ACT, LAST_CYCLE, NAMES, PREAB, PREPB, RD, RECORD, REFAB,
     REFPB, WR,
 };
+use crate::sheet_calls::{any_sheet, gaps_line_of_length, malformed_gaps_line, sheet_of};
+
+/// Whether scripts and steps have `gaps` lines: once the programs under test know the form.
+pub const GAPS_LINES: bool = false;
 
 /// Small generator of numbers (splitmix64).
 pub struct Rng(u64);
@@ -126,8 +130,14 @@ impl Script {
 
 /// The script of a seed.
 pub fn script(seed: u64, lines: usize) -> Script {
+    script_with(seed, lines, GAPS_LINES)
+}
+
+/// With or without `gaps` lines.
+pub fn script_with(seed: u64, lines: usize, gaps_lines: bool) -> Script {
     let mood = MOODS[(seed % MOODS.len() as u64) as usize];
     let mut player = Player::new(seed, mood, lines);
+    player.gaps_lines = gaps_lines;
     player.play();
     Script {
         seed,
@@ -303,6 +313,8 @@ struct Player {
     taste: usize,
     /// How often each gap was named, so that seldom ones are sought.
     named: [u64; 21],
+    /// Without them the same numbers are drawn as if there were none.
+    gaps_lines: bool,
 }
 
 impl Player {
@@ -316,6 +328,7 @@ impl Player {
             busy: vec![0, 1, 2],
             taste: 0,
             named: [0; 21],
+            gaps_lines: GAPS_LINES,
         }
     }
 
@@ -568,18 +581,88 @@ impl Player {
         self.say(&text)
     }
 
-    fn open(&mut self) {
+    /// A ratio, ranks and a mode.
+    fn settings(&mut self) -> (u64, u64, u64) {
         let ratio = self.rng.pick(&[1, 2, 4]);
         let ranks = match self.mood {
             Mood::TwoRanks => 2,
             _ => self.rng.between(1, 2),
         };
-        let mode = self.rng.below(2);
-        if self.open_with(ratio, ranks, mode).as_deref() == Some("open 0") {
+        (ratio, ranks, self.rng.below(2))
+    }
+
+    fn open(&mut self) {
+        let (ratio, ranks, mode) = self.settings();
+        let answer = self.open_with(ratio, ranks, mode);
+        self.begin(answer);
+    }
+
+    /// What a new session begins with.
+    fn begin(&mut self, answer: Option<String>) {
+        if answer.as_deref() == Some("open 0") {
             self.new_habits();
             if self.mood == Mood::Limit {
                 self.go_to_the_limit();
             }
+        }
+    }
+
+    /// The gaps of a data sheet.
+    fn ask_for_gaps(&mut self) -> Option<String> {
+        // Of any sheet's gaps most are too long for activates to meet.
+        let usual = self.mood == Mood::FourActivates || self.rng.chance(40);
+        let sheet = if usual {
+            let gaps = self.gaps();
+            sheet_of(&mut self.rng, gaps)
+        } else {
+            any_sheet(&mut self.rng)
+        };
+        let answer = if self.rng.chance(4) {
+            let length = self.rng.pick(&[LONGEST_LINE, LONGEST_LINE + 1]);
+            let line = gaps_line_of_length(&sheet, length);
+            self.send(format!("{line}\n").into_bytes())
+        } else {
+            self.say(&sheet.to_string())
+        };
+        if self.rng.chance(15) {
+            // It changes nothing.
+            self.say("status");
+        }
+        answer
+    }
+
+    /// Gaps, and often an opening with what was told.
+    fn gaps_and_open(&mut self) {
+        let answer = self.ask_for_gaps();
+        let opens = match self.mood {
+            // An opening ends a session that was to become long.
+            Mood::Steady | Mood::Deep | Mood::TwoRanks | Mood::FourActivates => 10,
+            _ => 40,
+        };
+        let told = answer.as_ref().and_then(|a| a.strip_prefix("gaps 0 0 "));
+        if let Some(gaps) = told.filter(|_| self.rng.chance(opens)) {
+            self.open_as_told(gaps);
+        }
+    }
+
+    fn open_as_told(&mut self, gaps: &str) {
+        let (ratio, ranks, mode) = self.settings();
+        let client = self.client();
+        let answer = self.say(&format!("open {ratio} {ranks} {mode} {client} {gaps}"));
+        self.begin(answer);
+    }
+
+    /// Before some acts.
+    fn gaps_now_and_then(&mut self) {
+        let percent = match self.mood {
+            Mood::Clients | Mood::Wild => 9,
+            Mood::Mixed | Mood::Malformed => 6,
+            // Its acts are long.
+            Mood::Deep => 30,
+            _ => 3,
+        };
+        if self.gaps_lines && self.rng.chance(percent) {
+            self.gaps_and_open();
         }
     }
 
@@ -1203,6 +1286,9 @@ impl Player {
 
     /// A line of good form that does no lasting harm if it is taken as such.
     fn some_line(&mut self) -> String {
+        if self.gaps_lines && self.rng.chance(15) {
+            return any_sheet(&mut self.rng).to_string();
+        }
         let (kind, rank, bank) = self.any_command();
         let word = self.kind_word(kind);
         let (earliest, _) = self.earliest((kind, rank, bank));
@@ -1271,6 +1357,11 @@ impl Player {
     }
 
     fn malformed(&mut self) {
+        if self.gaps_lines && self.rng.chance(12) {
+            let line = malformed_gaps_line(&mut self.rng);
+            self.say(&line);
+            return;
+        }
         let line = self.some_line();
         let mut words: Vec<Vec<u8>> = line.split(' ').map(|w| w.as_bytes().to_vec()).collect();
         let some = self.rng.below(words.len() as u64) as usize;
@@ -1717,6 +1808,9 @@ impl Player {
 
     /// The calls before any session, in some order.
     fn beginning(&mut self) {
+        if self.gaps_lines && self.rng.chance(40) {
+            self.ask_for_gaps();
+        }
         for _ in 0..self.rng.below(6) {
             match self.rng.below(9) {
                 0 => self.offer(),
@@ -1741,6 +1835,9 @@ impl Player {
 
     /// Mostly a line without a newline, which is answered and not played: also one that would be accepted, or ask nothing.
     fn last_line(&mut self) -> Vec<u8> {
+        if self.gaps_lines && self.rng.chance(6) {
+            return any_sheet(&mut self.rng).to_string().into_bytes();
+        }
         let (kind, rank, bank) = self.command();
         let (earliest, _) = self.earliest((kind, rank, bank));
         let offer = format!("offer {kind} {rank} {bank} {earliest}").into_bytes();
@@ -1795,6 +1892,7 @@ impl Player {
             {
                 self.say(&format!("lend {}", u64::MAX));
             }
+            self.gaps_now_and_then();
             self.act();
         }
         self.end();
@@ -1998,7 +2096,113 @@ fn joined(mut front: Vec<u8>, record: Vec<u8>, good: &[u8], at: usize) -> Option
 #[cfg(test)]
 mod tests {
     use super::*;
+    use crate::sheet::Sheet;
+    use crate::sheet_calls::wrong;
     use std::collections::BTreeMap;
+
+    /// The sheet of a line that was answered.
+    fn sheet_sent(line: &Line) -> Sheet {
+        let text = String::from_utf8(line.sent.clone()).unwrap();
+        let mut numbers = text.split_whitespace().skip(1).map(|w| w.parse().unwrap());
+        let tck = numbers.next().unwrap();
+        let times = [(); 20].map(|()| numbers.next().unwrap());
+        Sheet { tck, times }
+    }
+
+    fn answer_of(line: &Line) -> &str {
+        let answer = line.answer.as_deref().unwrap_or_default();
+        std::str::from_utf8(answer).unwrap()
+    }
+
+    /// What a script's `gaps` lines, and the openings behind them, come to.
+    fn gaps_seen(script: &Script) -> Vec<String> {
+        let mut seen = Vec::new();
+        let (mut told, mut is_open) = (String::new(), false);
+        for line in &script.lines {
+            let sent = String::from_utf8_lossy(&line.sent);
+            let words: Vec<&str> = answer_of(line).splitn(4, ' ').collect();
+            match words.as_slice() {
+                ["gaps", number, gap, gaps] => {
+                    seen.push(format!("gaps {number}"));
+                    seen.push(format!("gap {gap}"));
+                    seen.push(format!("{:?}", script.mood));
+                    seen.push(format!("in a session: {is_open}"));
+                    if *number == "0" {
+                        told = gaps.to_string();
+                    }
+                }
+                ["?"] if sent.trim().starts_with("gaps ") => {
+                    seen.push(format!("malformed, whole: {}", sent.ends_with('\n')));
+                }
+                ["open", "0"] => {
+                    is_open = true;
+                    if !told.is_empty() && sent.trim().ends_with(&told) {
+                        seen.push("opened as told".to_string());
+                    }
+                }
+                _ => {}
+            }
+        }
+        seen
+    }
+
+    /// In every mood: told and refused, each gap named, before a session, malformed, cut short, opened with.
+    #[test]
+    fn scripts_reach_every_answer_to_gaps() {
+        let mut seen: BTreeMap<String, u64> = BTreeMap::new();
+        for seed in 0..104 {
+            for key in gaps_seen(&script_with(seed, 500, true)) {
+                *seen.entry(key).or_default() += 1;
+            }
+        }
+        let mut due = vec![
+            ("in a session: false".to_string(), 20),
+            ("in a session: true".to_string(), 500),
+            ("malformed, whole: true".to_string(), 100),
+            ("malformed, whole: false".to_string(), 3),
+            ("opened as told".to_string(), 50),
+        ];
+        due.extend([0, 13, 14].map(|number| (format!("gaps {number}"), 50)));
+        due.extend((0..=20).map(|gap| (format!("gap {gap}"), 3)));
+        due.extend(MOODS.map(|mood| (format!("{mood:?}"), 10)));
+        for (key, least) in due {
+            assert!(
+                seen.get(&key).is_some_and(|n| *n >= least),
+                "{key}: {seen:?}"
+            );
+        }
+    }
+
+    #[test]
+    fn scripts_without_gaps_lines_have_none() {
+        for seed in 0..26 {
+            assert!(gaps_seen(&script_with(seed, 200, false)).is_empty());
+        }
+    }
+
+    /// Each wrong program is found by some of a hundred scripts.
+    #[test]
+    fn scripts_tell_wrong_gaps() {
+        let mut sent = Vec::new();
+        for seed in 0..104 {
+            let lines = script_with(seed, 500, true).lines;
+            let asked = lines
+                .into_iter()
+                .filter(|l| answer_of(l).starts_with("gaps "));
+            sent.push(asked.collect::<Vec<Line>>());
+        }
+        for (name, call) in wrong::programs() {
+            let differs = |line: &Line| {
+                let Sheet { tck, times } = sheet_sent(line);
+                call(tck, times).to_string() != answer_of(line)
+            };
+            let count = sent
+                .iter()
+                .filter(|lines| lines.iter().any(differs))
+                .count();
+            assert!(count >= 5, "{name}: {count} of 104");
+        }
+    }
 
     #[test]
     fn a_seed_gives_one_script() {

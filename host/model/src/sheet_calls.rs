@@ -141,10 +141,10 @@ fn time_out_of_range(rng: &mut Rng, tck: u64) -> u64 {
     let high = 1 << rng.between(32, 63);
     let small = tck * rng.between(LAST_TIME / tck + 1, LAST_TIME / tck + 9);
     let any = LAST_TIME + 1 + rng.below(u64::MAX - LAST_TIME);
-    // From the last one on the time and a cycle do not fit 64 bits together.
-    let edges = [LAST_TIME + 1, LAST_TIME + 2, u64::MAX, u64::MAX - tck + 1];
-    let edge = rng.pick(&edges);
-    rng.pick(&[edge, edge, high, high | good, small, any])
+    // From here on the time and a cycle do not fit 64 bits together.
+    let wide = u64::MAX - tck + 1;
+    let edge = rng.pick(&[LAST_TIME + 1, LAST_TIME + 2, wide, u64::MAX]);
+    rng.pick(&[LAST_TIME + 1, edge, high, high | good, small, any])
 }
 
 fn bad_time(rng: &mut Rng, tck: u64) -> u64 {
@@ -156,26 +156,24 @@ fn bad_time(rng: &mut Rng, tck: u64) -> u64 {
     }
 }
 
-/// The places of the faults: none, one, several or all.
+/// The places of the faults: none, one, several or all. Any may be the lowest.
 fn faults(rng: &mut Rng) -> [bool; 20] {
-    let mut faults = [false; 20];
-    let count = match rng.below(10) {
-        0..=4 => 0,
-        5 | 6 => 1,
-        7 | 8 => rng.between(2, 6),
+    let first = rng.below(20) as usize;
+    let more = match rng.below(10) {
+        0..=3 => return [false; 20],
+        4..=6 => 0,
+        7 | 8 => 30,
         _ => return [true; 20],
     };
-    for _ in 0..count {
-        faults[rng.below(20) as usize] = true;
-    }
-    faults
+    std::array::from_fn(|place| place == first || (place > first && rng.chance(more)))
 }
 
 fn any_tck(rng: &mut Rng) -> u64 {
-    match rng.below(10) {
-        0..=3 => rng.pick(&TCKS),
-        4 | 5 => rng.pick(&[1, 625, 65_536, 65_537, LAST_TCK]),
-        6 | 7 => rng.between(1, 2_000),
+    match rng.below(20) {
+        0..=5 => rng.pick(&TCKS),
+        6 => rng.pick(&[0, LAST_TCK + 1]),
+        7..=12 => rng.pick(&[1, 625, 65_536, 65_537, LAST_TCK]),
+        13..=15 => rng.between(1, 2_000),
         _ => rng.between(1, LAST_TCK),
     }
 }
@@ -209,7 +207,7 @@ pub fn sheet_of(rng: &mut Rng, gaps: [u16; 20]) -> Sheet {
 }
 
 /// The sheet's line with zeros before its last time, so that it has so many bytes.
-pub fn line_of_length(sheet: &Sheet, length: usize) -> String {
+pub fn gaps_line_of_length(sheet: &Sheet, length: usize) -> String {
     let line = sheet.to_string();
     let (front, last) = line.rsplit_once(' ').unwrap_or((&line, ""));
     let width = length.saturating_sub(front.len() + 1);
@@ -235,7 +233,7 @@ const NO_NUMBERS: [&str; 14] = [
 ];
 
 /// A line that is nearly of the form. Often its tCK, or a time, would be refused if it were.
-pub fn malformed_line(rng: &mut Rng) -> String {
+pub fn malformed_gaps_line(rng: &mut Rng) -> String {
     let mut sheet = any_sheet(rng);
     if rng.chance(30) {
         sheet.tck = rng.pick(&[0, LAST_TCK + 1, u64::MAX]);
@@ -586,7 +584,7 @@ mod tests {
         let mut rng = Rng::new(4);
         let mut console = Console::new();
         for _ in 0..5_000 {
-            let line = malformed_line(&mut rng);
+            let line = malformed_gaps_line(&mut rng);
             let answer = console.line(line.as_bytes(), true);
             assert_eq!(answer.as_deref(), Some("?"), "{line}");
         }
@@ -598,11 +596,11 @@ mod tests {
         let mut console = Console::new();
         for _ in 0..100 {
             let sheet = any_sheet(&mut rng);
-            let line = line_of_length(&sheet, 4_096);
+            let line = gaps_line_of_length(&sheet, 4_096);
             assert_eq!(line.len(), 4_096);
             let answer = console.line(line.as_bytes(), true);
             assert_eq!(answer, Some(sheet.answer().to_string()));
-            assert_eq!(line_of_length(&sheet, 0), sheet.to_string());
+            assert_eq!(gaps_line_of_length(&sheet, 0), sheet.to_string());
         }
     }
 }
