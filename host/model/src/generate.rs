@@ -20,6 +20,11 @@ impl Rng {
         Rng(seed)
     }
 
+    /// Another generator, so that what it draws changes nothing of this one's.
+    pub fn apart(&self) -> Rng {
+        Rng(self.0 ^ 0x5851_f42d_4c95_7f2d)
+    }
+
     pub fn draw(&mut self) -> u64 {
         self.0 = self.0.wrapping_add(0x9e37_79b9_7f4a_7c15);
         let mut z = self.0;
