@@ -204,7 +204,7 @@ pub struct Ran {
 /// Whether an answer says that something was refused or malformed.
 fn is_refused(answer: &str) -> bool {
     let words: Vec<&str> = answer.split(' ').collect();
-    let numbered = ["open", "offer", "ask", "back", "status", "restore"];
+    let numbered = ["open", "offer", "ask", "back", "status", "restore", "gaps"];
     answer == "?" || (numbered.contains(&words[0]) && words[1] != "0")
 }
 

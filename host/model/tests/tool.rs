@@ -264,7 +264,7 @@ impl Sum {
         let Some(answer) = answer else { return };
         let words: Vec<&str> = answer.split(' ').collect();
         let accepts = ["open", "offer", "back"].contains(&words[0]);
-        let judges = accepts || ["ask", "status", "restore"].contains(&words[0]);
+        let judges = accepts || ["ask", "status", "restore", "gaps"].contains(&words[0]);
         let number = if judges { words[1].parse().unwrap() } else { 0 };
         match (answer, number) {
             ("?", _) => self.malformed += 1,
