@@ -1,12 +1,11 @@
 -- Laws of responses.
 use mathlib.Core.Path.{_≡_, refl, sym, _∙_, ap}
 use mathlib.Core.List.{List, [], _∷_, _++_}
-use Prim.Native.Nat.{ℕ, zero, suc, _+_, _%_, _≤_, _<_}
+use Prim.Native.Nat.{ℕ, zero, suc, _+_, _≤_, _<_}
 use native.Mathlib.Numerals.{add-one}
 use native.Mathlib.Omega.{arith}
 use lib.ListN.{length, take, drop, set, getD, replicate, length-take, length-drop, List·getD-eq-default}
 use lib.Seq.{length-take-le, take-suc-set}
-use Rattle.timing.specs.declared.clocks.DramCycles.{DramCycles}
 use Rattle.history.specs.Answers.{Reply, Verdict}
 use Rattle.session.specs.declared.state.Session.{Session}
 use Rattle.journal.specs.Restore.{Part, partOf}
@@ -14,7 +13,7 @@ use Rattle.statements.specs.Exact.{Left, RestoredIn, RestoreLeft, stretchIn}
 use Rattle.console.specs.declared.say.Said.{Said}
 use Rattle.console.specs.declared.respond.Response.{Response}
 use Rattle.console.specs.Say.{saidOf, withBytes, Tells}
-use Rattle.console.specs.Respond.{at, gapsFrom, prints, says, called, restores, Responds}
+use Rattle.console.specs.Respond.{at, eachFrom, prints, says, called, restores, Responds}
 
 abbrev pub responseOf : Session → ℕ → Said → Response
 responseOf s lent a = record { session = s; lent = lent; said = a }
@@ -61,11 +60,12 @@ stretch-size s lent j p bytes e inside low is =
 pub nth-none : (count i : ℕ) (l : List ℕ) → count ≤ i → 0 ≡ at (take count l) i
 nth-none count i l low = sym (List·getD-eq-default (take count l) 0 {n = i} (simp length-take (omega arith)))
 
--- gaps stored one after another
-gaps-last : (n i : ℕ) (ns : List ℕ) → gapsFrom (suc n) i ns ≡ gapsFrom n i ns ++ (record { 0 = at ns (i + n) % 65536 } ∷ [])
-unfolding gapsFrom
-gaps-last zero i ns = let here : i + 0 ≡ i = omega arith in rw here
-gaps-last (suc n) i ns = let here : i + suc n ≡ suc i + n = omega arith in rw (here, ← gaps-last n (suc i) ns)
+-- values stored one after another
+module _ {A : Type 0} (make : ℕ → A) where
+  each-last : (n i : ℕ) (ns : List ℕ) → eachFrom make (suc n) i ns ≡ eachFrom make n i ns ++ (make (at ns (i + n)) ∷ [])
+  unfolding eachFrom
+  each-last zero i ns = let here : i + 0 ≡ i = omega arith in rw here
+  each-last (suc n) i ns = let here : i + suc n ≡ suc i + n = omega arith in rw (here, ← each-last n (suc i) ns)
 
-pub gaps-next : (ns : List ℕ) (gaps : List DramCycles) (i : ℕ) → i < length gaps → take i gaps ≡ gapsFrom i 4 ns → take (i + 1) (set gaps i (record { 0 = at ns (4 + i) % 65536 })) ≡ gapsFrom (i + 1) 4 ns
-gaps-next ns gaps i low e = rw (add-one, take-suc-set gaps i (record { 0 = at ns (4 + i) % 65536 }) low, gaps-last i 4 ns, e)
+  pub each-next : (from : ℕ) (ns : List ℕ) (l : List A) (i : ℕ) → i < length l → take i l ≡ eachFrom make i from ns → take (i + 1) (set l i (make (at ns (from + i)))) ≡ eachFrom make (i + 1) from ns
+  each-next from ns l i low e = rw (add-one, take-suc-set l i (make (at ns (from + i))) low, each-last i from ns, e)

@@ -1,9 +1,9 @@
 -- Lines put together from a word and numbers.
 use mathlib.Core.Path.{_≡_, sym, _∙_, ap}
-use mathlib.Core.List.{List, [], _∷_, _++_, append-nil}
-use Prim.Native.Nat.{ℕ, zero, suc, _+_, _*_, _≤_, min}
+use mathlib.Core.List.{List, [], _∷_, _++_, append-nil, map}
+use Prim.Native.Nat.{ℕ, zero, suc, _+_, _*_, _≤_, min, _<_}
 use native.Mathlib.Omega.{arith}
-use lib.ListN.{length, take, getD, length-append, length-take}
+use lib.ListN.{length, take, getD, length-append, length-take, set, length-map, List·getD-map}
 use borrow.Author.Tests.{ne-eqb}
 use Rattle.text.specs.Text.{text, decimal, spaced}
 use Rattle.text.specs.declared.lines.Line.{Line}
@@ -13,7 +13,10 @@ use Rattle.text.proofs.LineLaws.{decimal-most}
 use Rattle.requests.specs.Words.{words}
 use Rattle.requests.specs.Forms.{tableWords, wordAt}
 use Rattle.requests.proofs.FormLaws.{joined, table-words}
-use Rattle.console.specs.Say.{lineText}
+use Rattle.console.specs.Say.{lineText, gapsNumbers}
+use Rattle.timing.specs.declared.clocks.DramCycles.{DramCycles}
+use Rattle.timing.proofs.Fill.{fill-more}
+use Rattle.datasheet.specs.declared.sheet.GapsAnswer.{GapsAnswer}
 
 -- the words of the table are short
 abbrev short : List (List ℕ) → Type 0
@@ -64,3 +67,14 @@ module _ (row : ℕ) (ns : List ℕ) (count n hex : ℕ) (w l : Line) (size : le
   line-bytes some r put =
       let short = length-append (wordAt row) (spaced (take count ns)) in
       rw (ne-eqb hex 0 some) (put-is both (text " ") l r both-is (omega (arith, short, word-short row, spaced-most (take count ns), length-take count ns)) put)
+
+-- the numbers of a data sheet's answer, as a loop stores them: the two first stand there at its start, and a gap is added each turn
+pub gaps-next : (a : GapsAnswer) (numbers : List ℕ) (i : ℕ) → i < 20 → length (a .gaps) ≡ 20 → length numbers ≡ 22
+    → take (i + 2) numbers ≡ take (i + 2) (gapsNumbers a)
+    → take (i + 1 + 2) (set numbers (i + 2) (getD (a .gaps) i (record { 0 = 0 }) .0)) ≡ take (i + 1 + 2) (gapsNumbers a)
+gaps-next a numbers i low size room e =
+    let next : i + 1 + 2 ≡ i + 2 + 1 = omega arith in
+    let two : i + 2 ≡ suc (suc i) = omega arith in
+    let all : length (map (λ (g : DramCycles). g .0) (a .gaps)) ≡ 20 = length-map (a .gaps) (λ (g : DramCycles). g .0) ∙ size in
+    let here : getD (a .gaps) i (record { 0 = 0 }) .0 ≡ getD (gapsNumbers a) (i + 2) 0 = rw two (sym (List·getD-map (λ (g : DramCycles). g .0) (a .gaps) i (record { 0 = 0 }))) in
+    rw next (fill-more 0 numbers (gapsNumbers a) (i + 2) (getD (a .gaps) i (record { 0 = 0 }) .0) (omega (arith, room)) (omega (arith, all)) e here)

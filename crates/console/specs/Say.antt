@@ -1,7 +1,7 @@
 -- The text of an answer's line.
 use mathlib.Core.Path.{_≡_}
 use mathlib.Core.Bool.{cond}
-use mathlib.Core.List.{List, [], _∷_, _++_}
+use mathlib.Core.List.{List, [], _∷_, _++_, map}
 use Prim.Native.Nat.{ℕ}
 use lib.Dec.{eqb}
 use lib.ListN.{take, replicate}
@@ -9,6 +9,7 @@ use Rattle.text.specs.Text.{spaced}
 use Rattle.history.specs.Answers.{Reply, Status}
 use Rattle.journal.specs.Listing.{space}
 use Rattle.requests.specs.Forms.{wordAt}
+use Rattle.datasheet.specs.declared.sheet.GapsAnswer.{GapsAnswer}
 use Rattle.console.specs.declared.say.Said.{Said}
 
 -- the numbers of a call's answer, alone or with the earliest cycle and its gap; and those of a status
@@ -20,6 +21,10 @@ full r = r .number ∷ r .cycle ∷ r .gap ∷ []
 
 abbrev pub statusNumbers : Status → List ℕ
 statusNumbers s = s .number ∷ s .client ∷ s .opening ∷ s .survivors ∷ s .depth ∷ s .last ∷ s .records ∷ []
+
+-- number and gap number, and behind them the twenty gaps of a data sheet
+abbrev pub gapsNumbers : GapsAnswer → List ℕ
+gapsNumbers a = a .number ∷ a .«gap_number» ∷ map (λ g. g .0) (a .gaps)
 
 -- a space before the hexadecimal bytes, where there are any
 abbrev pub spaceBefore : ℕ → List ℕ

@@ -5,8 +5,9 @@ ghost use mathlib.Core.List.{List, []};
 ghost use lib.ListN.{length, take, getD};
 ghost use Rattle.session.specs.declared.state.Session.{Session};
 ghost use Rattle.requests.specs.declared.forms.Request.the-variants as asks;
-ghost use Rattle.console.specs.Respond.{gapsFrom, outcomeIn, outcome, Responds, Says, Answers};
+ghost use Rattle.console.specs.Respond.{eachFrom, gapFrom, timeFrom, outcomeIn, outcome, Responds, Says, Answers};
 use crate::say::Said;
+use crate::say::gaps_said;
 use crate::say::numbered;
 use crate::say::status_said;
 use crate::say::with_bytes;
@@ -17,6 +18,7 @@ use checker::calls::status;
 use checker::calls::stretch;
 use checker::calls::stretch_place;
 use checker::calls::take_back;
+use datasheet::sheet::Picoseconds;
 use requests::forms::Request;
 use requests::forms::form_at;
 use requests::requests::Asked;
@@ -55,7 +57,7 @@ fn nth(numbers: &[u64; 4096], asking: Asked, i: usize) -> u64
 
 // The twenty gaps behind the four first numbers of an opening.
 fn gaps_of(numbers: &[u64; 4096], asking: Asked) -> [DramCycles; 20]
-    ensures { λ r. ⌜ r ≡ gapsFrom 20 4 (take (asking .count) (now (numbers .entry))) ⌝ }
+    ensures { λ r. ⌜ r ≡ eachFrom gapFrom 20 4 (take (asking .count) (now (numbers .entry))) ⌝ }
 {
     let mut gaps = [DramCycles(0); 20];
     let mut i = 0;
@@ -273,6 +275,35 @@ fn to_bytes(
     }
 }
 
+// The twenty times behind the tCK of a data sheet.
+fn times_of(numbers: &[u64; 4096], asking: Asked) -> [Picoseconds; 20]
+    ensures { λ r. ⌜ r ≡ eachFrom timeFrom 20 1 (take (asking .count) (now (numbers .entry))) ⌝ }
+{
+    let mut times = [Picoseconds(0); 20];
+    let mut i = 0;
+    while i < 20 {
+        let time = Picoseconds(nth(numbers, asking, 1 + i));
+        times[i] = time;
+        i += 1;
+    }
+    times
+}
+
+fn to_gaps(session: Session, lent: usize, asking: Asked, numbers: &[u64; 4096]) -> Response
+    ensures { λ r. ⌜ Answers asks.Gaps (asking .row) (take (asking .count) (now (numbers .entry))) session lent r ⌝ }
+{
+    let tck = Picoseconds(nth(numbers, asking, 0));
+    let times = times_of(numbers, asking);
+    let given = datasheet::sheet::gaps_of(tck, times);
+    let gaps = given.gaps;
+    let said = gaps_said(asking.row, given.number, given.gap_number, gaps);
+    Response {
+        session,
+        lent,
+        said,
+    }
+}
+
 fn performed(
     session: Session,
     journal: &mut [u8],
@@ -298,6 +329,7 @@ fn performed(
         Request::Restore => to_restore(journal, lent, asking, numbers),
         Request::Poke => to_poke(session, journal, lent, asking, numbers),
         Request::Bytes => to_bytes(session, journal, lent, asking, numbers),
+        Request::Gaps => to_gaps(session, lent, asking, numbers),
     }
 }
 

@@ -6,12 +6,13 @@ ghost use lib.ListN.{take};
 ghost use Rattle.text.specs.Lines.{IsLine};
 ghost use Rattle.checker.specs.Replies.{knownStatus, statusReplied};
 ghost use Rattle.requests.specs.Forms.{wordAt};
-ghost use Rattle.console.specs.Say.{saidText, saidOf, withBytes, statusNumbers, Tells};
+ghost use Rattle.console.specs.Say.{saidText, saidOf, withBytes, statusNumbers, gapsNumbers, Tells};
 use checker::answers::Status;
 use checker::answers::StatusAnswer;
 use requests::forms::WORDS;
 use requests::words::nth_word;
 use text::lines::Line;
+use timing::clocks::DramCycles;
 
 // The first `count` numbers are said, and behind them `hex_count` bytes of the journal from a place on.
 pub struct Said {
@@ -81,6 +82,27 @@ pub fn status_said(row: usize, answered: StatusAnswer) -> Said
     match answered {
         StatusAnswer::Known(status) => known(row, status),
         StatusAnswer::NoSession => numbered(row, 7, 1, 0, 0),
+    }
+}
+
+pub fn gaps_said(row: usize, number: u64, gap: u64, gaps: [DramCycles; 20]) -> Said
+    ensures { λ r. ⌜ Tells row (gapsNumbers (record { number = number; «gap_number» = gap; gaps = gaps })) r ⌝ }
+{
+    let mut numbers = [0u64; 22];
+    numbers[0] = number;
+    numbers[1] = gap;
+    let mut i = 0;
+    while i < 20 {
+        let one = gaps[i];
+        numbers[i + 2] = one.0 as u64;
+        i += 1;
+    }
+    Said {
+        row,
+        count: 22,
+        numbers,
+        hex_from: 0,
+        hex_count: 0,
     }
 }
 

@@ -51,6 +51,7 @@ table =
     ∷ row "restore" asks.Restore 0 1 0 0 0 once inMemory
     ∷ row "poke" asks.Poke 0 1 0 0 1 once inMemory
     ∷ row "bytes" asks.Bytes 0 2 0 0 0 once anywhere
+    ∷ row "gaps" asks.Gaps 0 21 0 0 0 once anywhere
     ∷ []
 
 abbrev pub tableWords : List (List ℕ)

@@ -16,6 +16,7 @@ pub enum Request {
     Restore,
     Poke,
     Bytes,
+    Gaps,
 }
 
 // What stands behind a form's word: how many kinds, and behind them how many numbers of 64, 32, 16 and 8 bits; whether these come again
@@ -38,7 +39,7 @@ pub struct Place {
 }
 
 // The words of the table, in its order.
-pub const WORDS: [u8; 60] = *b"? open offer ask back status stretch lend restore poke bytes";
+pub const WORDS: [u8; 65] = *b"? open offer ask back status stretch lend restore poke bytes gaps";
 
 const FORMS: [Form; ROWS] = [
     Form(Request::Malformed, 0, 0, 0, 0, 0, false, true),
@@ -52,9 +53,10 @@ const FORMS: [Form; ROWS] = [
     Form(Request::Restore, 0, 1, 0, 0, 0, false, false),
     Form(Request::Poke, 0, 1, 0, 0, 1, false, false),
     Form(Request::Bytes, 0, 2, 0, 0, 0, false, true),
+    Form(Request::Gaps, 0, 21, 0, 0, 0, false, true),
 ];
 
-pub const ROWS: usize = 11;
+pub const ROWS: usize = 12;
 
 // The form of a row; what asks nothing has the place behind the last.
 pub fn form_at(row: usize) -> Form

@@ -4,26 +4,26 @@ use Prim.Native.Nat.{_-_, _≤_}
 use native.Mathlib.Omega.{arith}
 use lib.ListN.{length, take, length-set}
 use lib.Seq.{take-all}
-use Rattle.console.specs.Respond.{gapsFrom}
-use Rattle.console.proofs.RespondLaws.{gaps-next}
+use Rattle.console.specs.Respond.{eachFrom, gapFrom}
+use Rattle.console.proofs.RespondLaws.{each-next}
 use borrow.Author.Needs.{needs}
 use Rattle.console.proofs.respond.gaps_of.Statement.{statement}
 use Rattle.console.proofs.respond.gaps_of.Tie as tie
 
 abbrev Inv-loop : tie.InvT-loop
-Inv-loop numbers asking gaps₀ i₀ gaps i = (i ≤ 20) × (length gaps ≡ 20) × (take i gaps ≡ gapsFrom i 4 (take (asking .count) numbers))
+Inv-loop numbers asking gaps₀ i₀ gaps i = (i ≤ 20) × (length gaps ≡ 20) × (take i gaps ≡ eachFrom gapFrom i 4 (take (asking .count) numbers))
 
 abbrev μ-loop : tie.MeasureT-loop
 μ-loop numbers asking gaps₀ i₀ gaps i = 20 - i
 
 loop-holds : tie.Need-loop-holds Inv-loop μ-loop
-unfolding gapsFrom
+unfolding eachFrom
 loop-holds c = (omega arith, refl, refl)
 
 loop-again : tie.Need-loop-again Inv-loop μ-loop
 loop-again c =
     let l = c .before .before .loop in
-    (omega arith, simp length-set (l .inv .1), rw (c .nth .ensures) (gaps-next _ (l .gaps) (l .i) (omega (arith, l .inv .1, c .before .loop-test .taken)) (l .inv .2)))
+    (omega arith, simp length-set (l .inv .1), rw (c .nth .ensures) (each-next gapFrom 4 _ (l .gaps) (l .i) (omega (arith, l .inv .1, c .before .loop-test .taken)) (l .inv .2)))
 
 returns : tie.Need-returns Inv-loop μ-loop
 returns c =
