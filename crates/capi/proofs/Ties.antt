@@ -8,7 +8,7 @@ use Rattle.session.specs.State.{freshState}
 use Rattle.judging.specs.Judged.{replyIn}
 use Rattle.statements.specs.Calls.{given, Opens, Offers, TakesBack, TellsEarliest, TellsStatus, PlacesStretch}
 use Rattle.statements.specs.Statements.{Restores}
-use Rattle.statements.proofs.Ties.{Ensures}
+use Rattle.timing.proofs.Ties.{Ensures}
 use Rattle.checker.specs.Replies.{stretchTold}
 use Rattle.requests.specs.Requests.{asked}
 use Rattle.capi.specs.Crossing.{statusGiven, ListsForC}

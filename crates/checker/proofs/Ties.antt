@@ -3,7 +3,7 @@ use denote.Ref.{now}
 use Rattle.history.specs.Answers.{plain}
 use Rattle.judging.specs.Judged.{replyIn}
 use Rattle.statements.specs.Calls.{given, Opens, Offers, TakesBack, TellsEarliest, TellsStatus, PlacesStretch, seen, HandsStretch}
-use Rattle.statements.proofs.Ties.{Ensures}
+use Rattle.timing.proofs.Ties.{Ensures}
 use Rattle.checker.specs.Replies.{statusReplied, stretchTold}
 use Rattle.checker.proofs.calls.open_session.Kinds as opens
 use Rattle.checker.proofs.calls.open_session.Reads as open-reads

@@ -1,1 +1,4 @@
+pub mod GapCases
+pub mod GapsMean
 pub mod SheetLaws
+pub mod Ties

@@ -8,11 +8,10 @@ use native.Mathlib.Omega.{arith}
 use lib.Dec.{leb}
 use lib.ListN.{length, getD, drop, length-map, List·getD-map}
 use lib.Seq.{drop-cons, drop-length}
-use borrow.Author.Tests.{leb-true, ne-eqb}
+use borrow.Author.Tests.{leb-true, le-leb, ne-eqb}
 use Rattle.timing.specs.declared.clocks.DramCycles.{DramCycles}
 use Rattle.timing.proofs.Truth.{and-true}
 use Rattle.datasheet.specs.declared.sheet.Picoseconds.{Picoseconds}
-use Rattle.datasheet.specs.declared.sheet.Judged.{Judged}
 use Rattle.datasheet.specs.declared.sheet.Judged.the-variants.{Gap, Faulty}
 use Rattle.datasheet.specs.Sheet.{lastTck, dram, tckInRange, gapFor, faulty, judgedAt, gapsFor, lowestFaulty, refused, accepted, gapsIn}
 
@@ -21,6 +20,9 @@ none = record { 0 = 0 }
 
 pub tck-range : (tck : Picoseconds) → tckInRange tck ≡ true → (0 < tck .0) × (tck .0 ≤ lastTck)
 tck-range tck e = let w = and-true (leb 1 (tck .0)) (leb (tck .0) lastTck) e in (leb-true 1 (tck .0) (w .0), leb-true (tck .0) lastTck (w .1))
+
+pub range-tck : (tck : Picoseconds) → 0 < tck .0 → tck .0 ≤ lastTck → tckInRange tck ≡ true
+range-tck tck l h = rw (le-leb 1 (tck .0) l, le-leb (tck .0) lastTck h)
 
 module _ (tck time : Picoseconds) where
   pub judged-gap : {gap : DramCycles} → judgedAt tck time ≡ Gap gap → (faulty tck time ≡ false) × (gap ≡ dram (gapFor tck time))

@@ -40,11 +40,11 @@ impl Picoseconds {
         ensures { λ r. ⌜ r ≡ judgedAt tck self ⌝ }
     {
         let time = self.0;
-        let cycle = tck.0;
+        let period = tck.0;
         if Picoseconds::TIME_BOUND <= time {
             return Judged::Faulty;
         }
-        let gap = (time + (cycle - 1)) / cycle;
+        let gap = (time + (period - 1)) / period;
         if Picoseconds::LAST_GAP < gap {
             return Judged::Faulty;
         }

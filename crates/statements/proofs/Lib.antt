@@ -5,4 +5,3 @@ pub mod MeansLaws
 pub mod RestoreLaws
 pub mod RestoreMeans
 pub mod StretchLaws
-pub mod Ties

@@ -5,4 +5,5 @@ pub mod Legal
 pub mod Lookup
 pub mod Rounding
 pub mod TableLaws
+pub mod Ties
 pub mod Truth
