@@ -12,7 +12,7 @@ use Rattle.timing.proofs.Rounding.{rounding-lasts, rounding-least, rounding-zer
 use Rattle.timing.proofs.Truth.{or-true}
 use Rattle.datasheet.specs.declared.sheet.Picoseconds.{Picoseconds}
 use Rattle.datasheet.specs.declared.sheet.GapsAnswer.{GapsAnswer}
-use Rattle.datasheet.specs.Sheet.{lastTck, timeBound, lastGap, dram, timeOf, gapOf, tckInRange, gapFor, faulty, Fault, gapsFor, lowestFaulty, refused, accepted, gapsIn, GivesGaps}
+use Rattle.datasheet.specs.Sheet.{lastTck, timeBound, lastGap, dram, timeOf, gapOf, tckInRange, gapFor, faulty, Fault, gapsFor, lowestFaulty, zeros, accepted, gapsIn, GivesGaps}
 use Rattle.datasheet.proofs.SheetLaws.{none, tck-range, range-tck, gaps-at, answer-13, answer-14, answer-0}
 
 -- two outcomes coincide
@@ -73,8 +73,8 @@ module _ (tck : Picoseconds) where
 
   -- the three answers, and when each is given
   pub data Answered (times : List Picoseconds) : GapsAnswer → Type 0 where
-    refuses-tck : (InRange tck → ⊥) → Answered times (refused 13 0)
-    refuses-gap : (i : ℕ) → InRange tck → FirstFaulty times i → Answered times (refused 14 (i + 1))
+    refuses-tck : (InRange tck → ⊥) → Answered times (zeros 13 0)
+    refuses-gap : (i : ℕ) → InRange tck → FirstFaulty times i → Answered times (zeros 14 (i + 1))
     gives-gaps : InRange tck → NoneFaulty times → Answered times (accepted (gapsFor tck times))
 
   pub answered : (times : List Picoseconds) {r : GapsAnswer} → GivesGaps tck times r → Answered times r

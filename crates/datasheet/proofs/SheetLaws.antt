@@ -13,7 +13,7 @@ use Rattle.timing.specs.declared.clocks.DramCycles.{DramCycles}
 use Rattle.timing.proofs.Truth.{and-true}
 use Rattle.datasheet.specs.declared.sheet.Picoseconds.{Picoseconds}
 use Rattle.datasheet.specs.declared.sheet.Judged.the-variants.{Gap, Faulty}
-use Rattle.datasheet.specs.Sheet.{lastTck, dram, tckInRange, gapFor, faulty, judgedAt, gapsFor, lowestFaulty, refused, accepted, gapsIn}
+use Rattle.datasheet.specs.Sheet.{lastTck, dram, tckInRange, gapFor, faulty, judgedAt, gapsFor, lowestFaulty, zeros, accepted, gapsIn}
 
 abbrev pub none : Picoseconds
 none = record { 0 = 0 }
@@ -61,11 +61,11 @@ module _ (tck : Picoseconds) (times : List Picoseconds) where
   lowest-end n i e = rw (← e, drop-length times, lowestFaulty)
 
   -- the answer, once its line is known
-  pub answer-13 : tckInRange tck ≡ false → gapsIn tck times ≡ refused 13 0
+  pub answer-13 : tckInRange tck ≡ false → gapsIn tck times ≡ zeros 13 0
   unfolding gapsIn
   answer-13 e = rw e
 
-  pub answer-14 : (n : ℕ) → tckInRange tck ≡ true → lowestFaulty tck 1 times ≡ n + 1 → gapsIn tck times ≡ refused 14 (n + 1)
+  pub answer-14 : (n : ℕ) → tckInRange tck ≡ true → lowestFaulty tck 1 times ≡ n + 1 → gapsIn tck times ≡ zeros 14 (n + 1)
   unfolding gapsIn
   answer-14 n e f = rw (e, f, ne-eqb (n + 1) 0 (λ z. omega arith))
 

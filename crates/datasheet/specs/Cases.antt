@@ -6,7 +6,7 @@ use lib.Dec.{eqb}
 use lib.ListN.{set, replicate}
 use Rattle.timing.specs.declared.clocks.DramCycles.{DramCycles}
 use Rattle.datasheet.specs.declared.sheet.GapsAnswer.{GapsAnswer}
-use Rattle.datasheet.specs.Sheet.{dram, refused, accepted, gapsIn}
+use Rattle.datasheet.specs.Sheet.{dram, zeros, accepted, gapsIn}
 
 infix 80 _is_
 -- a gap number, and the time or the gap that it has
@@ -31,7 +31,7 @@ abbrev pub gives : ℕ → List Numbered → List Numbered → Case
 gives tck times gaps = record { tck = tck; times = times; answer = accepted (map dram (twenty gaps)) }
 
 abbrev pub refuses : ℕ → List Numbered → ℕ → ℕ → Case
-refuses tck times number gap = record { tck = tck; times = times; answer = refused number gap }
+refuses tck times number gap = record { tck = tck; times = times; answer = zeros number gap }
 
 abbrev pub inOrder : List Numbered
 inOrder =

@@ -59,20 +59,20 @@ unfoldable pub lowestFaulty : Picoseconds → ℕ → List Picoseconds → ℕ
 lowestFaulty tck n [] = 0
 lowestFaulty tck n (time ∷ times) = cond (faulty tck time) n (lowestFaulty tck (n + 1) times)
 
--- a refusal: the gaps are then zeros
-abbrev pub refused : ℕ → ℕ → GapsAnswer
-refused number gap = record { number = number; «gap_number» = gap; gaps = replicate 20 (dram 0) }
+-- a number and a gap number; the gaps are zeros
+abbrev pub zeros : ℕ → ℕ → GapsAnswer
+zeros number gap = record { number = number; «gap_number» = gap; gaps = replicate 20 (dram 0) }
 
 abbrev pub accepted : List DramCycles → GapsAnswer
 accepted gaps = record { number = 0; «gap_number» = 0; gaps = gaps }
 
 -- 14 with the lowest gap number, or the gaps
 abbrev pub gapsReply : Picoseconds → List Picoseconds → ℕ → GapsAnswer
-gapsReply tck times lowest = cond (eqb lowest 0) (accepted (gapsFor tck times)) (refused 14 lowest)
+gapsReply tck times lowest = cond (eqb lowest 0) (accepted (gapsFor tck times)) (zeros 14 lowest)
 
 -- 13, then 14
 unfoldable pub gapsIn : Picoseconds → List Picoseconds → GapsAnswer
-gapsIn tck times = cond (tckInRange tck) (gapsReply tck times (lowestFaulty tck 1 times)) (refused 13 0)
+gapsIn tck times = cond (tckInRange tck) (gapsReply tck times (lowestFaulty tck 1 times)) (zeros 13 0)
 
 -- THE CALL, by its name
 abbrev pub GivesGaps : Picoseconds → List Picoseconds → GapsAnswer → Type 0

@@ -1,7 +1,7 @@
 // The times of a data sheet are in picoseconds, a third kind of number beside the two clocks'; only `judged` goes from them to DRAM cycles.
 ghost use mathlib.Core.Path.{_≡_};
 ghost use Prim.Native.Nat.{_<_, _≤_};
-ghost use Rattle.datasheet.specs.Sheet.{lastTck, tckInRange, judgedAt, refused, GivesGaps};
+ghost use Rattle.datasheet.specs.Sheet.{lastTck, tckInRange, judgedAt, zeros, GivesGaps};
 use timing::clocks::DramCycles;
 
 #[repr(C)]
@@ -59,8 +59,9 @@ impl GapsAnswer {
 
     pub const BAD_TIME: u64 = 14;
 
-    fn refused(number: u64, gap: u64) -> GapsAnswer
-        ensures { λ r. ⌜ r ≡ refused number gap ⌝ }
+    // A number and a gap number, with zeros for gaps.
+    fn zeros(number: u64, gap: u64) -> GapsAnswer
+        ensures { λ r. ⌜ r ≡ zeros number gap ⌝ }
     {
         GapsAnswer {
             number,
@@ -74,22 +75,18 @@ pub fn gaps_of(tck: Picoseconds, times: [Picoseconds; 20]) -> GapsAnswer
     ensures { λ r. ⌜ GivesGaps tck times r ⌝ }
 {
     if !tck.tck_in_range() {
-        return GapsAnswer::refused(GapsAnswer::BAD_TCK, 0);
+        return GapsAnswer::zeros(GapsAnswer::BAD_TCK, 0);
     }
-    let mut gaps = [DramCycles(0); 20];
+    let mut answer = GapsAnswer::zeros(GapsAnswer::ACCEPTED, 0);
     let mut i = 0;
     while i < 20 {
         let time = times[i];
         let judged = time.judged(tck);
         let Judged::Gap(gap) = judged else {
-            return GapsAnswer::refused(GapsAnswer::BAD_TIME, i as u64 + 1);
+            return GapsAnswer::zeros(GapsAnswer::BAD_TIME, i as u64 + 1);
         };
-        gaps[i] = gap;
+        answer.gaps[i] = gap;
         i += 1;
     }
-    GapsAnswer {
-        number: GapsAnswer::ACCEPTED,
-        gap_number: 0,
-        gaps,
-    }
+    answer
 }
