@@ -12,15 +12,13 @@ use Rattle.timing.proofs.Rounding.{rounding-lasts, rounding-least, rounding-zer
 use Rattle.timing.proofs.Truth.{or-true}
 use Rattle.datasheet.specs.declared.sheet.Picoseconds.{Picoseconds}
 use Rattle.datasheet.specs.declared.sheet.GapsAnswer.{GapsAnswer}
-use Rattle.datasheet.specs.Sheet.{lastTck, timeBound, lastGap, dram, timeOf, gapOf, tckInRange, gapFor, faulty, Fault, gapsFor, lowestFaulty, zeros, accepted, gapsIn, GivesGaps}
+use Rattle.datasheet.specs.Sheet.{timeBound, lastGap, dram, tckInRange, gapFor, faulty, gapsFor, lowestFaulty, zeros, accepted, gapsIn, GivesGaps}
+use Rattle.datasheet.specs.Meaning.{timeOf, gapOf, InRange, Fault, FaultAt, LowestFault}
 use Rattle.datasheet.proofs.SheetLaws.{none, tck-range, range-tck, gaps-at, answer-13, answer-14, answer-0}
 
 -- two outcomes coincide
 pub determined : (tck : Picoseconds) (times : List Picoseconds) {r r′ : GapsAnswer} → GivesGaps tck times r → GivesGaps tck times r′ → r ≡ r′
 determined tck times p q = p ∙ sym q
-
-abbrev pub InRange : Picoseconds → Type 0
-InRange tck = (0 < tck .0) × (tck .0 ≤ lastTck)
 
 -- a fault, as it is computed and in words
 pub fault-said : (tck time : Picoseconds) → faulty tck time ≡ true → Fault tck time
@@ -87,18 +85,8 @@ module _ (tck : Picoseconds) where
       go true e (inl w) = subst (Answered times) (sym (answer-0 tck times e (w .0))) (gives-gaps (tck-range tck e) (w .1))
       go true e (inr w) = subst (Answered times) (sym (answer-14 tck times (w .0) e (omega (arith, w .1)))) (refuses-gap (w .0) (tck-range tck e) (w .2))
 
--- THE ANSWER'S MEANING. Below, a gap number is any from 1 to the count of the times
+-- THE ANSWER'S MEANING, for the twenty times or however many there are
 module _ (tck : Picoseconds) (times : List Picoseconds) where
-  abbrev pub NoFault : Type 0
-  NoFault = (n : ℕ) → 0 < n → n ≤ length times → Fault tck (timeOf times n) → ⊥
-
-  -- the lowest gap number that has a fault
-  pub record LowestFault (gap : ℕ) : Type 0 where
-    pub above : 0 < gap
-    pub within : gap ≤ length times
-    pub fault : Fault tck (timeOf times gap)
-    pub lowest : (n : ℕ) → 0 < n → n < gap → Fault tck (timeOf times n) → ⊥
-
   gap-is : InRange tck → (n : ℕ) → gapOf (gapsFor tck times) n ≡ dram (gapFor tck (timeOf times n))
   gap-is h n = rw (rounding-zero (tck .0) (h .0)) at (sym (gaps-at tck times (n - 1)))
 
@@ -106,20 +94,14 @@ module _ (tck : Picoseconds) (times : List Picoseconds) where
   place-back : (i : ℕ) → i + 1 - 1 ≡ i
   place-back i = omega arith
 
-  numbered : NoneFaulty tck times → NoFault
-  numbered h n above within f = h (n - 1) (omega arith) f
+  numbered : NoneFaulty tck times → (n : ℕ) → FaultAt tck times n → ⊥
+  numbered h n f = h (n - 1) (omega (arith, f .above, f .within)) (f .fault)
 
-  placed : NoFault → NoneFaulty tck times
-  placed h i l f = h (i + 1) (omega arith) (omega arith) (rw (place-back i) f)
+  fault-at : (i : ℕ) → i < length times → Fault tck (getD times i none) → FaultAt tck times (i + 1)
+  fault-at i l f = record { above = omega arith; within = omega arith; fault = rw (place-back i) f }
 
-  first-numbered : (i : ℕ) → FirstFaulty tck times i → LowestFault (i + 1)
-  first-numbered i w =
-      record {
-        above = omega arith;
-        within = omega (arith, w .within);
-        fault = rw (place-back i) (w .fault);
-        lowest = λ n above below f. w .before (n - 1) (omega arith) f;
-      }
+  first-numbered : (i : ℕ) → FirstFaulty tck times i → LowestFault tck times (i + 1)
+  first-numbered i w = record { faulty = fault-at i (w .within) (w .fault); lowest = λ n below f. w .before (n - 1) (omega (arith, f .above)) (f .fault) }
 
   module _ {r : GapsAnswer} (given : GivesGaps tck times r) where
     accepted-is : r .number ≡ 0 → InRange tck × NoneFaulty tck times × (r .gaps ≡ gapsFor tck times)
@@ -138,12 +120,12 @@ module _ (tck : Picoseconds) (times : List Picoseconds) where
     gap-least e n cycles l = let w = accepted-is e in rw (w .2, gap-is (w .0) n) (rounding-least (tck .0) (w .0 .0) (timeOf times n .0) cycles l)
 
     -- 0 exactly if tCK is in range and no gap is faulty
-    pub accepted-exactly : (r .number ≡ 0) ↔ (InRange tck × NoFault)
+    pub accepted-exactly : (r .number ≡ 0) ↔ (InRange tck × ((n : ℕ) → FaultAt tck times n → ⊥))
     accepted-exactly = ((λ e. let w = accepted-is e in (w .0, numbered (w .1))), λ h. go (answered tck times given) h)
       where
-        go : {x : GapsAnswer} → Answered tck times x → InRange tck × NoFault → x .number ≡ 0
+        go : {x : GapsAnswer} → Answered tck times x → InRange tck × ((n : ℕ) → FaultAt tck times n → ⊥) → x .number ≡ 0
         go (refuses-tck out) h = absurd (out (h .0))
-        go (refuses-gap i in-range f) h = absurd (placed (h .1) i (f .within) (f .fault))
+        go (refuses-gap i in-range f) h = absurd (h .1 (i + 1) (fault-at i (f .within) (f .fault)))
         go (gives-gaps in-range f) h = refl
 
     -- 13 exactly if tCK is out of range
@@ -161,13 +143,22 @@ module _ (tck : Picoseconds) (times : List Picoseconds) where
         back (gives-gaps in-range f) h = absurd (h in-range)
 
     -- 14: the gap with that number is faulty, and none with a lower number is
-    pub bad-time-lowest : r .number ≡ 14 → InRange tck × LowestFault (r .«gap_number»)
+    pub bad-time-lowest : r .number ≡ 14 → InRange tck × LowestFault tck times (r .«gap_number»)
     bad-time-lowest e = go (answered tck times given) e
       where
-        go : {x : GapsAnswer} → Answered tck times x → x .number ≡ 14 → InRange tck × LowestFault (x .«gap_number»)
+        go : {x : GapsAnswer} → Answered tck times x → x .number ≡ 14 → InRange tck × LowestFault tck times (x .«gap_number»)
         go (refuses-tck out) z = absurd (omega arith)
         go (refuses-gap i in-range f) z = (in-range, first-numbered i f)
         go (gives-gaps in-range f) z = absurd (omega arith)
+
+    -- 14 exactly if tCK is in range and some gap is faulty
+    pub bad-time-exactly : (r .number ≡ 14) ↔ (InRange tck × ((n : ℕ) × FaultAt tck times n))
+    bad-time-exactly = ((λ e. let w = bad-time-lowest e in (w .0, (r .«gap_number», w .1 .faulty))), λ h. go (answered tck times given) h)
+      where
+        go : {x : GapsAnswer} → Answered tck times x → InRange tck × ((n : ℕ) × FaultAt tck times n) → x .number ≡ 14
+        go (refuses-tck out) h = absurd (out (h .0))
+        go (refuses-gap i in-range f) h = refl
+        go (gives-gaps in-range f) h = absurd (numbered f (h .1 .0) (h .1 .1))
 
     -- the number is one of these three
     pub number-one-of : (r .number ≡ 0) ⊎ (r .number ≡ 13) ⊎ (r .number ≡ 14)

@@ -1,11 +1,10 @@
 -- Document 02, request 2026-01: a tCK of 1 to 1,000,000 ps and twenty times in ps, each below 4,294,967,296, give the twenty gaps.
 use mathlib.Core.Path.{_≡_}
-use mathlib.Core.Logic.{_⊎_}
 use mathlib.Core.Bool.{Bool, cond, _&&_, _||_}
 use mathlib.Core.List.{List, [], _∷_, map}
-use Prim.Native.Nat.{ℕ, _+_, _-_, _≤_, _<_}
+use Prim.Native.Nat.{ℕ, _+_}
 use lib.Dec.{eqb, leb, ltb}
-use lib.ListN.{getD, replicate}
+use lib.ListN.{replicate}
 use Rattle.timing.specs.declared.clocks.DramCycles.{DramCycles}
 use Rattle.timing.specs.Clocks.{ceilDiv}
 use Rattle.datasheet.specs.declared.sheet.Picoseconds.{Picoseconds}
@@ -15,13 +14,6 @@ use Rattle.datasheet.specs.declared.sheet.GapsAnswer.{GapsAnswer}
 
 abbrev pub dram : ℕ → DramCycles
 dram n = record { 0 = n }
-
--- of the times, and of the gaps, the one with a gap number
-abbrev pub timeOf : List Picoseconds → ℕ → Picoseconds
-timeOf times n = getD times (n - 1) (record { 0 = 0 })
-
-abbrev pub gapOf : List DramCycles → ℕ → DramCycles
-gapOf gaps n = getD gaps (n - 1) (dram 0)
 
 abbrev pub lastTck : ℕ
 lastTck = 1000000
@@ -42,10 +34,6 @@ gapFor tck time = ceilDiv (time .0) (tck .0)
 -- a time out of range or a gap above 65,535
 abbrev pub faulty : Picoseconds → Picoseconds → Bool
 faulty tck time = leb timeBound (time .0) || ltb lastGap (gapFor tck time)
-
--- the same in words
-abbrev pub Fault : Picoseconds → Picoseconds → Type 0
-Fault tck time = (timeBound ≤ time .0) ⊎ (lastGap < gapFor tck time)
 
 -- the only step from picoseconds to DRAM cycles
 abbrev pub judgedAt : Picoseconds → Picoseconds → Judged
