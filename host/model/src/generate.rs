@@ -10,7 +10,7 @@ use crate::model::{
 use crate::sheet_calls::{any_sheet, gaps_line_of_length, malformed_gaps_line, sheet_of};
 
 /// Whether scripts and steps have `gaps` lines: once the programs under test know the form.
-pub const GAPS_LINES: bool = false;
+pub const GAPS_LINES: bool = true;
 
 /// Small generator of numbers (splitmix64).
 pub struct Rng(u64);
