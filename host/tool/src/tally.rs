@@ -3,7 +3,7 @@
 use std::io::{self, Write};
 
 /// What each number says, in short.
-pub const REASONS: [&str; 12] = [
+pub const REASONS: [&str; 15] = [
     "accepted",
     "no session open",
     "no command kind",
@@ -16,6 +16,9 @@ pub const REASONS: [&str; 12] = [
     "no room for a record",
     "bad settings",
     "bad record",
+    "no such number",
+    "no such tCK",
+    "a time or a gap out of range",
 ];
 
 /// The gaps' names, gap 1 first.
@@ -64,7 +67,7 @@ impl Tally {
                 return true;
             }
             b"open" | b"offer" | b"back" => &mut self.accepted,
-            b"ask" | b"status" | b"restore" => &mut self.told,
+            b"ask" | b"status" | b"restore" | b"gaps" => &mut self.told,
             _ => {
                 self.told += 1;
                 return false;
