@@ -27,6 +27,7 @@ fn print_requests() {
   stretch                                  stretch LENGTH HEX
   lend BYTES                               lend BYTES
   bytes FROM COUNT                         bytes HEX
+  gaps TCK T1 .. T20                       gaps N GAP G1 .. G20
   restore BYTES                            restore N AT     (in memory only)
   poke AT BYTE                             poke AT BYTE     (in memory only)
 ",
@@ -38,6 +39,7 @@ fn print_words() {
         STDOUT_FILENO,
         b"RATIO is 1, 2 or 4; RANKS 1 or 2; MODE 0 (16-bank) or 1 (bank-group); G1 to G20 are the gaps in DRAM cycles.
 KIND is ACT RD WR PREPB PREAB REFAB REFPB, or 1 to 7 in this order. CYCLE is in controller cycles.
+TCK and T1 to T20 are a data sheet's times in picoseconds, T1 that of gap 1; what is told are the gaps of an opening.
 A line that is empty or begins with # asks nothing. Any other line prints ? and changes nothing.
 
 ",
@@ -60,6 +62,8 @@ fn print_numbers() {
    9 no room for a record
   10 ratio not 1, 2, 4; ranks not 1, 2; mode not 0, 1
   11 bad record in a restore: AT is its number
+  13 TCK not 1 to 1000000
+  14 a time above 4294967295, or a gap above 65535: GAP is the lowest such
 
 ",
     );

@@ -220,6 +220,7 @@ fn bench_help_has_the_forms_and_the_numbers() {
         "restore BYTES restore N AT",
         "poke AT BYTE poke AT BYTE",
         "bytes FROM COUNT bytes HEX",
+        "gaps TCK T1 .. T20 gaps N GAP G1 .. G20",
         "0 accepted",
         "1 no session open",
         "2 command kind not 1 to 7",
@@ -232,6 +233,8 @@ fn bench_help_has_the_forms_and_the_numbers() {
         "9 no room for a record",
         "10 ratio not 1, 2, 4; ranks not 1, 2; mode not 0, 1",
         "11 bad record in a restore",
+        "13 TCK not 1 to 1000000",
+        "14 a time above 4294967295, or a gap above 65535",
     ];
     let lines: Vec<String> = page
         .lines()

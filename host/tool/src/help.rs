@@ -43,10 +43,12 @@ Requests, and what is printed:
   stretch                                  stretch LENGTH HEX
   lend BYTES                               lend BYTES
   bytes FROM COUNT                         bytes HEX
+  gaps TCK T1 .. T20                       gaps N GAP G1 .. G20
   restore BYTES                            restore N AT     (in memory only)
   poke AT BYTE                             poke AT BYTE     (in memory only)
 RATIO is 1, 2 or 4; RANKS 1 or 2; MODE 0 (16-bank) or 1 (bank-group); G1 to G20 are the gaps in DRAM cycles.
 KIND is ACT RD WR PREPB PREAB REFAB REFPB, or 1 to 7 in this order. CYCLE is in controller cycles.
+TCK and T1 to T20 are a data sheet's times in picoseconds, T1 that of gap 1; what is told are the gaps of an opening.
 A line that is empty or begins with # asks nothing. Any other line prints ? and changes nothing.
 
 N, the answer's number:
@@ -62,6 +64,8 @@ N, the answer's number:
    9 no room for a record
   10 ratio not 1, 2, 4; ranks not 1, 2; mode not 0, 1
   11 bad record in a restore: AT is its number
+  13 TCK not 1 to 1000000
+  14 a time above 4294967295, or a gap above 65535: GAP is the lowest such
 
 GAP: 1 tRC  2 tRRD  3 tRCD  4 tRAS  5 tCCD  6 tCCD_L  7 tCCD_S  8 tRDWR  9 tRTP  10 tWRRD  11 tWRRD_L
      12 tWRRD_S  13 tWRPRE  14 tRPpb  15 tRPab  16 tPPD  17 tRFCab  18 tRFCpb  19 tPBR2PBR  20 tFAW  0 none
