@@ -10,9 +10,8 @@ use Rattle.statements.specs.Calls.{given, Opens, Offers, TakesBack, TellsEarlie
 use Rattle.statements.specs.Statements.{Restores}
 use Rattle.timing.proofs.Ties.{Ensures}
 use Rattle.checker.specs.Replies.{stretchTold}
-use Rattle.requests.specs.Requests.{asked}
 use Rattle.capi.specs.Crossing.{statusGiven, ListsForC}
-use Rattle.capi.specs.Language.{comesTo, PlaysLine}
+use Rattle.capi.specs.Language.{Plays}
 use Rattle.capi.proofs.calls.rossinhiu_fresh_2.Kinds as fresh
 use Rattle.capi.proofs.calls.rossinhiu_fresh_2.Reads as fresh-reads
 use Rattle.capi.proofs.calls.rossinhiu_open_2.Kinds as opens
@@ -65,5 +64,5 @@ list-ensures : Ensures 2 lists.ps lists.r list-reads.Post (λ κs a r s. ListsFo
 list-ensures κs a r s p = p
 
 console-ensures : Ensures 4 plays.ps plays.r play-reads.Post
-    (λ κs a r s. PlaysLine (comesTo (asked (now (a .1 .1 .0)) (not (eqb (a .1 .1 .1 .0 .ended) 0)) (not (eqb (a .1 .1 .1 .0 .«in_file») 0))) (a .0) (now (a .1 .0)) (a .1 .1 .1 .0 .lent)) (now (s .1 .0)) (now (a .1 .1 .1 .1 .1 .0)) (now (s .1 .1 .1 .1 .1 .0)) r)
+    (λ κs a r s. Plays (a .0) (now (a .1 .0)) (now (a .1 .1 .0)) (a .1 .1 .1 .0) (now (s .1 .0)) (now (a .1 .1 .1 .1 .1 .0)) (now (s .1 .1 .1 .1 .1 .0)) r)
 console-ensures κs a r s p = p

@@ -1,8 +1,5 @@
 // The console's language for C: one line of text in, the answer's text out. Like the calls it asks nothing of its caller.
-ghost use mathlib.Core.Bool.{not};
-ghost use lib.Dec.{eqb};
-ghost use Rattle.requests.specs.Requests.{asked};
-ghost use Rattle.capi.specs.Language.{comesTo, PlaysLine};
+ghost use Rattle.capi.specs.Language.{Plays};
 use console::respond::respond;
 use console::say::said_line;
 use requests::requests::parse_line;
@@ -38,7 +35,7 @@ pub extern "C" fn rossinhiu_console_2(
     numbers: &mut [u64; 4096],
     out: &mut [u8],
 ) -> LinePlayed
-    ensures { λ r. ⌜ PlaysLine (comesTo (asked (now (line .entry)) (not (eqb (given .ended) 0)) (not (eqb (given .«in_file») 0))) session (now (journal .entry)) (given .lent)) (now (journal .exit)) (now (out .entry)) (now (out .exit)) r ⌝ }
+    ensures { λ r. ⌜ Plays session (now (journal .entry)) (now (line .entry)) given (now (journal .exit)) (now (out .entry)) (now (out .exit)) r ⌝ }
 {
     let asking = parse_line(line, given.ended != 0, given.in_file != 0, numbers);
     let response = respond(session, journal, given.lent, asking, numbers);
