@@ -10,6 +10,7 @@ use Rattle.statements.specs.Calls.{given, Opens, Offers, TakesBack, TellsEarlie
 use Rattle.statements.specs.Statements.{Restores}
 use Rattle.timing.proofs.Ties.{Ensures}
 use Rattle.checker.specs.Replies.{stretchTold}
+use Rattle.datasheet.specs.Sheet.{picoseconds, GivesGaps}
 use Rattle.capi.specs.Crossing.{statusGiven, ListsForC}
 use Rattle.capi.specs.Language.{Plays}
 use Rattle.capi.proofs.calls.rossinhiu_fresh_2.Kinds as fresh
@@ -30,6 +31,8 @@ use Rattle.capi.proofs.calls.rossinhiu_restore_2.Kinds as restores
 use Rattle.capi.proofs.calls.rossinhiu_restore_2.Reads as restore-reads
 use Rattle.capi.proofs.calls.rossinhiu_list_part_2.Kinds as lists
 use Rattle.capi.proofs.calls.rossinhiu_list_part_2.Reads as list-reads
+use Rattle.capi.proofs.calls.rossinhiu_gaps_2.Kinds as gives
+use Rattle.capi.proofs.calls.rossinhiu_gaps_2.Reads as give-reads
 use Rattle.capi.proofs.language.rossinhiu_console_2.Kinds as plays
 use Rattle.capi.proofs.language.rossinhiu_console_2.Reads as play-reads
 
@@ -66,3 +69,6 @@ list-ensures κs a r s p = p
 console-ensures : Ensures 4 plays.ps plays.r play-reads.Post
     (λ κs a r s. Plays (a .0) (now (a .1 .0)) (now (a .1 .1 .0)) (a .1 .1 .1 .0) (now (s .1 .0)) (now (a .1 .1 .1 .1 .1 .0)) (now (s .1 .1 .1 .1 .1 .0)) r)
 console-ensures κs a r s p = p
+
+gaps-ensures : Ensures 0 gives.ps gives.r give-reads.Post (λ κs a r s. GivesGaps (picoseconds (a .0)) (a .1 .0 .times) r)
+gaps-ensures κs a r s p = p

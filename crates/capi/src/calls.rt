@@ -13,10 +13,12 @@ ghost use Rattle.statements.specs.Calls.{given, Opens, Offers, TakesBack, Tells
 ghost use Rattle.statements.specs.Statements.{Restores};
 ghost use Rattle.judging.specs.Judged.{replyIn};
 ghost use Rattle.checker.specs.Replies.{stretchTold};
+ghost use Rattle.datasheet.specs.Sheet.{picoseconds, GivesGaps};
 ghost use Rattle.capi.specs.Crossing.{statusGiven, ListsForC};
 use crate::crossing::Gaps;
 use crate::crossing::ListedPart;
 use crate::crossing::StatusNumbers;
+use crate::crossing::Times;
 use crate::crossing::one_if;
 use crate::crossing::status_numbers;
 use checker::answers::Offered;
@@ -29,6 +31,9 @@ use checker::calls::open_session;
 use checker::calls::status;
 use checker::calls::stretch_place;
 use checker::calls::take_back;
+use datasheet::sheet::GapsAnswer;
+use datasheet::sheet::Picoseconds;
+use datasheet::sheet::gaps_of;
 use judging::answers::Answer;
 use listing::records::list_part;
 use restoring::restore::Restored;
@@ -126,4 +131,12 @@ pub extern "C" fn rossinhiu_list_part_2(
         written: done.written,
         ended: one_if(done.stopped),
     }
+}
+
+#[no_mangle]
+pub extern "C" fn rossinhiu_gaps_2(tck: u64, times: Times) -> GapsAnswer
+    ensures { λ r. ⌜ GivesGaps (picoseconds tck) (times .times) r ⌝ }
+{
+    let given = times.times;
+    gaps_of(Picoseconds(tck), given)
 }

@@ -1,9 +1,10 @@
-// What crosses to C but is no answer of a call as it stands: the gaps, a status as numbers, a listing's end.
+// What crosses to C but is no answer of a call as it stands: gaps and times, a status as numbers, a listing's end.
 ghost use mathlib.Core.Path.{_≡_};
 ghost use mathlib.Core.Bool.{cond};
 ghost use Rattle.checker.specs.Replies.{statusReplied};
 ghost use Rattle.capi.specs.Crossing.{statusGiven};
 use checker::answers::StatusAnswer;
+use datasheet::sheet::Picoseconds;
 use judging::answers::Answer;
 use session::state::Session;
 use timing::clocks::DramCycles;
@@ -12,6 +13,12 @@ use timing::clocks::DramCycles;
 #[repr(C)]
 pub struct Gaps {
     pub gaps: [DramCycles; 20],
+}
+
+// The twenty times of a data sheet, that of gap 1 first.
+#[repr(C)]
+pub struct Times {
+    pub times: [Picoseconds; 20],
 }
 
 #[repr(C)]

@@ -29,8 +29,7 @@ use Rattle.requests.specs.declared.forms.Request.{Request}
 use Rattle.requests.specs.declared.forms.Request.the-variants as asks
 use Rattle.requests.specs.Forms.{noForm, formAt}
 use Rattle.console.specs.declared.respond.Response.{Response}
-use Rattle.datasheet.specs.declared.sheet.Picoseconds.{Picoseconds}
-use Rattle.datasheet.specs.Sheet.{gapsIn}
+use Rattle.datasheet.specs.Sheet.{picoseconds, gapsIn}
 use Rattle.console.specs.Say.{brief, full, statusNumbers, gapsNumbers}
 
 -- the row whose word the answer has, its numbers, the journal's bytes that are printed behind them as hexadecimal and the place where they stand, the
@@ -67,9 +66,6 @@ eachFrom make (suc n) i ns = make (at ns i) ∷ eachFrom make n (suc i) ns
 -- a client holds 32 bits and a gap 16: a line's always do, and any other value is reduced
 abbrev pub gapFrom : ℕ → DramCycles
 gapFrom n = record { 0 = n % 65536 }
-
-abbrev pub timeFrom : ℕ → Picoseconds
-timeFrom n = record { 0 = n }
 
 abbrev pub settingsOf : List ℕ → Settings
 settingsOf ns =
@@ -108,7 +104,7 @@ outcomeIn s j lent asks.Lend row ns = lends row (at ns 0) s j
 outcomeIn s j lent asks.Restore row ns = restores row (restoreIn (take (at ns 0) j)) lent j
 outcomeIn s j lent asks.Poke row ns = pokes row (at ns 0) (at ns 1 % 256) s lent j
 outcomeIn s j lent asks.Bytes row ns = shows row (at ns 0) (at ns 1) s lent j
-outcomeIn s j lent asks.Gaps row ns = says row (gapsNumbers (gapsIn (timeFrom (at ns 0)) (eachFrom timeFrom 20 1 ns))) s lent j
+outcomeIn s j lent asks.Gaps row ns = says row (gapsNumbers (gapsIn (picoseconds (at ns 0)) (eachFrom picoseconds 20 1 ns))) s lent j
 
 -- no more is lent than there is; the request is that of the row, and its numbers are the first of the array
 abbrev pub outcome : Session → List ℕ → ℕ → Asked → List ℕ → Outcome

@@ -5,7 +5,8 @@ ghost use mathlib.Core.List.{List, []};
 ghost use lib.ListN.{length, take, getD};
 ghost use Rattle.session.specs.declared.state.Session.{Session};
 ghost use Rattle.requests.specs.declared.forms.Request.the-variants as asks;
-ghost use Rattle.console.specs.Respond.{eachFrom, gapFrom, timeFrom, outcomeIn, outcome, Responds, Says, Answers};
+ghost use Rattle.datasheet.specs.Sheet.{picoseconds};
+ghost use Rattle.console.specs.Respond.{eachFrom, gapFrom, outcomeIn, outcome, Responds, Says, Answers};
 use crate::say::Said;
 use crate::say::gaps_said;
 use crate::say::numbered;
@@ -277,7 +278,7 @@ fn to_bytes(
 
 // The twenty times behind the tCK of a data sheet.
 fn times_of(numbers: &[u64; 4096], asking: Asked) -> [Picoseconds; 20]
-    ensures { λ r. ⌜ r ≡ eachFrom timeFrom 20 1 (take (asking .count) (now (numbers .entry))) ⌝ }
+    ensures { λ r. ⌜ r ≡ eachFrom picoseconds 20 1 (take (asking .count) (now (numbers .entry))) ⌝ }
 {
     let mut times = [Picoseconds(0); 20];
     let mut i = 0;

@@ -13,10 +13,10 @@ use Rattle.timing.specs.declared.clocks.DramCycles.{DramCycles}
 use Rattle.timing.proofs.Truth.{and-true}
 use Rattle.datasheet.specs.declared.sheet.Picoseconds.{Picoseconds}
 use Rattle.datasheet.specs.declared.sheet.Judged.the-variants.{Gap, Faulty}
-use Rattle.datasheet.specs.Sheet.{lastTck, dram, tckInRange, gapFor, faulty, judgedAt, gapsFor, lowestFaulty, zeros, accepted, gapsIn}
+use Rattle.datasheet.specs.Sheet.{lastTck, dram, picoseconds, tckInRange, gapFor, faulty, judgedAt, gapsFor, lowestFaulty, zeros, accepted, gapsIn}
 
 abbrev pub none : Picoseconds
-none = record { 0 = 0 }
+none = picoseconds 0
 
 pub tck-range : (tck : Picoseconds) → tckInRange tck ≡ true → (0 < tck .0) × (tck .0 ≤ lastTck)
 tck-range tck e = let w = and-true (leb 1 (tck .0)) (leb (tck .0) lastTck) e in (leb-true 1 (tck .0) (w .0), leb-true (tck .0) lastTck (w .1))

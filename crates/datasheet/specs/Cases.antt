@@ -6,7 +6,7 @@ use lib.Dec.{eqb}
 use lib.ListN.{set, replicate}
 use Rattle.timing.specs.declared.clocks.DramCycles.{DramCycles}
 use Rattle.datasheet.specs.declared.sheet.GapsAnswer.{GapsAnswer}
-use Rattle.datasheet.specs.Sheet.{dram, zeros, accepted, gapsIn}
+use Rattle.datasheet.specs.Sheet.{dram, picoseconds, zeros, accepted, gapsIn}
 
 infix 80 _is_
 -- a gap number, and the time or the gap that it has
@@ -70,7 +70,7 @@ abbrev pub same : GapsAnswer → GapsAnswer → Bool
 same x y = eqb (x .number) (y .number) && eqb (x .«gap_number») (y .«gap_number») && sameGaps (x .gaps) (y .gaps)
 
 abbrev pub right : Case → Bool
-right k = same (gapsIn (record { 0 = k .tck }) (map (λ n. record { 0 = n }) (twenty (k .times)))) (k .answer)
+right k = same (gapsIn (picoseconds (k .tck)) (map picoseconds (twenty (k .times)))) (k .answer)
 
 unfoldable pub allRight : List Case → Bool
 allRight [] = true

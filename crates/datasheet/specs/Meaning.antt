@@ -5,11 +5,11 @@ use Prim.Native.Nat.{ℕ, _-_, _≤_, _<_}
 use lib.ListN.{length, getD}
 use Rattle.timing.specs.declared.clocks.DramCycles.{DramCycles}
 use Rattle.datasheet.specs.declared.sheet.Picoseconds.{Picoseconds}
-use Rattle.datasheet.specs.Sheet.{dram, lastTck, timeBound, lastGap, gapFor}
+use Rattle.datasheet.specs.Sheet.{dram, picoseconds, lastTck, timeBound, lastGap, gapFor}
 
 -- of the times, and of the gaps, the one with a gap number
 abbrev pub timeOf : List Picoseconds → ℕ → Picoseconds
-timeOf times n = getD times (n - 1) (record { 0 = 0 })
+timeOf times n = getD times (n - 1) (picoseconds 0)
 
 abbrev pub gapOf : List DramCycles → ℕ → DramCycles
 gapOf gaps n = getD gaps (n - 1) (dram 0)

@@ -15,6 +15,9 @@ use Rattle.datasheet.specs.declared.sheet.GapsAnswer.{GapsAnswer}
 abbrev pub dram : ℕ → DramCycles
 dram n = record { 0 = n }
 
+abbrev pub picoseconds : ℕ → Picoseconds
+picoseconds n = record { 0 = n }
+
 abbrev pub lastTck : ℕ
 lastTck = 1000000
 

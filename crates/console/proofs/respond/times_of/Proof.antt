@@ -4,14 +4,15 @@ use Prim.Native.Nat.{_-_, _≤_}
 use native.Mathlib.Omega.{arith}
 use lib.ListN.{length, take, length-set}
 use lib.Seq.{take-all}
-use Rattle.console.specs.Respond.{eachFrom, timeFrom}
+use Rattle.datasheet.specs.Sheet.{picoseconds}
+use Rattle.console.specs.Respond.{eachFrom}
 use Rattle.console.proofs.RespondLaws.{each-next}
 use borrow.Author.Needs.{needs}
 use Rattle.console.proofs.respond.times_of.Statement.{statement}
 use Rattle.console.proofs.respond.times_of.Tie as tie
 
 abbrev Inv-loop : tie.InvT-loop
-Inv-loop numbers asking times₀ i₀ times i = (i ≤ 20) × (length times ≡ 20) × (take i times ≡ eachFrom timeFrom i 1 (take (asking .count) numbers))
+Inv-loop numbers asking times₀ i₀ times i = (i ≤ 20) × (length times ≡ 20) × (take i times ≡ eachFrom picoseconds i 1 (take (asking .count) numbers))
 
 abbrev μ-loop : tie.MeasureT-loop
 μ-loop numbers asking times₀ i₀ times i = 20 - i
@@ -23,7 +24,7 @@ loop-holds c = (omega arith, refl, refl)
 loop-again : tie.Need-loop-again Inv-loop μ-loop
 loop-again c =
     let l = c .before .before .loop in
-    (omega arith, simp length-set (l .inv .1), rw (c .nth .ensures) (each-next timeFrom 1 _ (l .times) (l .i) (omega (arith, l .inv .1, c .before .loop-test .taken)) (l .inv .2)))
+    (omega arith, simp length-set (l .inv .1), rw (c .nth .ensures) (each-next picoseconds 1 _ (l .times) (l .i) (omega (arith, l .inv .1, c .before .loop-test .taken)) (l .inv .2)))
 
 returns : tie.Need-returns Inv-loop μ-loop
 returns c =
