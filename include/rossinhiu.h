@@ -65,6 +65,8 @@ extern "C" {
 #define ROSSINHIU_NO_ROOM 9         /* no room for a record, or a stored journal too long */
 #define ROSSINHIU_BAD_SETTINGS 10   /* ratio not 1, 2, 4; ranks not 1, 2; mode not 0, 1 */
 #define ROSSINHIU_BAD_RECORD 11     /* bad record in a restore */
+#define ROSSINHIU_BAD_TCK 13        /* tCK not 1 to 1,000,000 ps */
+#define ROSSINHIU_BAD_TIME 14       /* a time above 4,294,967,295 ps, or a gap above 65,535 */
 
 /*
  * The state. Copy it, compare nothing in it and change nothing in it: its fields are named here so that its size and layout are
@@ -116,6 +118,28 @@ struct rossinhiu_gaps {
 
 /* The state with which a bench begins: no session is open and the journal has no record. Not all bytes 0 by promise: call this. */
 struct rossinhiu_session rossinhiu_fresh(void) ROSSINHIU_AS("rossinhiu_fresh");
+
+/*
+ * The gaps of an opening, from a data sheet's tCK and times. All are whole numbers of picoseconds: nanoseconds times 1,000. Each gap
+ * is the fewest DRAM cycles that last at least its time; a time of 0 gives 0. No state is asked for, and nothing is written.
+ * number: 13 if `tck` is not 1 to 1,000,000; else 14 if a time is above 4,294,967,295 or its gap above 65,535; else 0. With 14,
+ * `gap_number` is the lowest number of a gap at fault; with 0 and 13 it is 0. With 0, `gaps` go into rossinhiu_open as they are. With
+ * 13 and 14 all of them are 0 and MUST not be opened with: no gap would hold a command back.
+ * In C++ say `struct rossinhiu_gaps` for the type: the call has the same name.
+ */
+struct rossinhiu_times {
+    uint64_t time[20]; /* in picoseconds: time[0] is gap 1's, tRC; time[19] is gap 20's, tFAW */
+};
+struct rossinhiu_sheet {
+    uint64_t number;
+    uint64_t gap_number;
+    struct rossinhiu_gaps gaps;
+};
+/* One name for both is allowed, but g++ can warn of it. */
+#pragma GCC diagnostic push
+#pragma GCC diagnostic ignored "-Wshadow"
+struct rossinhiu_sheet rossinhiu_gaps(uint64_t tck, struct rossinhiu_times times) ROSSINHIU_AS("rossinhiu_gaps");
+#pragma GCC diagnostic pop
 
 /*
  * Opens a session for a client and writes its record. `ratio` is 1, 2 or 4 DRAM cycles to a controller cycle, `ranks` 1 or 2, `mode`
@@ -173,7 +197,7 @@ struct rossinhiu_taken_back rossinhiu_take_back(struct rossinhiu_session session
 /*
  * Says how the session stands: client number, record number of its opening, surviving commands, how many can be taken back, the last
  * surviving command's cycle (0 where there is none), records in the journal.
- * number: 1 with zeros, or 0. (With no session open read session.records for the records in the journal.)
+ * number: 1 with zeros, or 0. (With no session open read session.progress.records for the records in the journal.)
  */
 struct rossinhiu_standing {
     uint64_t number;
@@ -239,7 +263,7 @@ struct rossinhiu_listed rossinhiu_list_part(struct rossinhiu_session session, co
  * `written` bytes of text stand at the front of `out`, without a newline: 0 if the line asks nothing (blank, or a comment), else at
  * most 512, so lend 512; with fewer nothing may be written. Behind the text belong `hex_count` bytes of the journal from `hex_from` on,
  * as lower-case hexadecimal; they never go past the journal.
- * If session.records has grown by one, the line was accepted and its record written, at 64 times the count before.
+ * If session.progress.records has grown by one, the line was accepted and its record written, at 64 times the count before.
  */
 #define ROSSINHIU_ANSWER_SIZE 512
 #define ROSSINHIU_NUMBERS 4096

@@ -2,11 +2,16 @@
 //! call here is safe for every argument.
 
 use crate::ffi;
-use crate::ffi::{Gaps, Given, Numbers, Part, Session, Status};
+use crate::ffi::{Gaps, Given, Numbers, Part, Session, Sheet, Status, Times};
 
 /// The state with which a bench begins.
 pub fn fresh() -> Session {
     unsafe { ffi::rossinhiu_fresh() }
+}
+
+/// The gaps of a data sheet's tCK and times, in picoseconds: the number, the gap number beside a 14, the gaps.
+pub fn gaps(tck: u64, times: &[u64; 20]) -> Sheet {
+    unsafe { ffi::rossinhiu_gaps(tck, Times { time: *times }) }
 }
 
 /// Opens a session: document 01's number.

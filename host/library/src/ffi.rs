@@ -58,6 +58,22 @@ pub struct Gaps {
     pub gap: [u16; 20],
 }
 
+/// A data sheet's times in picoseconds, gap 1's first.
+#[repr(C)]
+#[derive(Clone, Copy, Debug, PartialEq, Eq)]
+pub struct Times {
+    pub time: [u64; 20],
+}
+
+/// What a data sheet's times come to.
+#[repr(C)]
+#[derive(Clone, Copy, Debug, PartialEq, Eq)]
+pub struct Sheet {
+    pub number: u64,
+    pub gap_number: u64,
+    pub gaps: Gaps,
+}
+
 #[repr(C)]
 #[derive(Clone, Copy, Debug)]
 pub struct Opened {
@@ -145,6 +161,8 @@ pub struct Played {
 extern "C" {
     #[link_name = "rossinhiu_fresh_2"]
     pub fn rossinhiu_fresh() -> Session;
+    #[link_name = "rossinhiu_gaps_2"]
+    pub fn rossinhiu_gaps(tck: u64, times: Times) -> Sheet;
     #[link_name = "rossinhiu_open_2"]
     pub fn rossinhiu_open(
         session: Session,

@@ -1,4 +1,5 @@
-//! The library's C functions held against the model: at least 5,000,000 calls, every answer and every byte of the journal.
+//! The library's C functions held against the model: at least 5,000,000 calls, every answer and every byte of the journal; and the gaps
+//! of as many data sheets.
 //! ROSSINHIU_CALLS gives another number of calls, ROSSINHIU_SEED the first seed.
 
 use rossinhiu::checker::{self, Console, Said};
@@ -7,6 +8,8 @@ use rossinhiu_model::console as model_console;
 use rossinhiu_model::generate::{script, Rng, MOODS, SETTINGS_A};
 use rossinhiu_model::listing;
 use rossinhiu_model::model::{Command, State, LAST_CYCLE, MOST_RECORDS, RECORD};
+use rossinhiu_model::sheet::SheetAnswer;
+use rossinhiu_model::sheet_calls::compare_gaps_calls;
 use rossinhiu_speed::twin;
 use std::collections::BTreeMap;
 use std::sync::atomic::{AtomicU64, Ordering};
@@ -293,10 +296,17 @@ fn number_from(name: &str, default: u64) -> u64 {
     given.map_or(default, |text| text.parse().expect("a number"))
 }
 
+fn calls_wanted() -> u64 {
+    number_from("ROSSINHIU_CALLS", 5_000_000)
+}
+
+fn first_seed() -> u64 {
+    number_from("ROSSINHIU_SEED", 20_260_000)
+}
+
 #[test]
 fn five_million_calls_as_the_model() {
-    let wanted = number_from("ROSSINHIU_CALLS", 5_000_000);
-    let first = number_from("ROSSINHIU_SEED", 20_260_000);
+    let (wanted, first) = (calls_wanted(), first_seed());
     let (next, calls) = (AtomicU64::new(first), AtomicU64::new(0));
     let work = || {
         let mut seen = Seen::new();
@@ -353,6 +363,24 @@ fn every_answer_came(seen: &Seen) {
             "no earliest cycle by gap {gap}"
         );
     }
+}
+
+/// The gaps of data sheets: every edge at every gap number, then as many drawn sheets as there are calls above.
+#[test]
+fn gaps_as_the_model() {
+    let call = |tck, times| {
+        let came = checker::gaps(tck, &times);
+        SheetAnswer {
+            number: came.number,
+            gap: came.gap_number,
+            gaps: came.gaps.gap,
+        }
+    };
+    let asked = compare_gaps_calls(first_seed(), calls_wanted(), call);
+    println!(
+        "{} data sheets",
+        asked.unwrap_or_else(|report| panic!("{report}"))
+    );
 }
 
 /// Every field of the library's state stands where the header says: the twin's state after the same calls is the same, field by field.
@@ -498,7 +526,11 @@ fn any_session(rng: &mut Rng) -> Session {
     let mut session = checker::fresh();
     let mut any = || rng.draw() >> rng.below(64);
     session.last.iter_mut().for_each(|x| *x = any());
-    session.progress.activates.iter_mut().for_each(|x| *x = any());
+    session
+        .progress
+        .activates
+        .iter_mut()
+        .for_each(|x| *x = any());
     for entry in &mut session.entries {
         (entry.slot, entry.earlier) = (any(), any());
         (entry.pushed_out, entry.latest) = (any(), any());
@@ -549,11 +581,12 @@ fn a_full_journal() {
 #[test]
 fn on_64_kib_of_stack() {
     type Call = fn(&mut Session, &mut [u8], &mut [u8]) -> u64;
-    let calls: [Call; 10] = [
+    let calls: [Call; 11] = [
         |s, _, _| {
             *s = checker::fresh();
             s.progress.records
         },
+        |_, _, _| checker::gaps(625, &[26_250; 20]).number,
         |s, lent, _| checker::open(s, lent, (4, 2, 1), 7, &SETTINGS_A),
         |s, lent, _| checker::offer(s, lent, 1, 0, 3, 100).number,
         |s, _, _| checker::earliest(s, 2, 0, 3).number,

@@ -6,6 +6,8 @@ use rossinhiu_model::disk::{Disk, Told};
 use rossinhiu_model::generate::Rng;
 use rossinhiu_model::harness::*;
 use rossinhiu_model::model::{Command as Offer, State, NAMES, RECORD};
+use rossinhiu_model::sheet::SheetAnswer;
+use rossinhiu_model::sheet_calls::any_sheet;
 use std::fs;
 use std::mem::{offset_of, size_of};
 use std::path::{Path, PathBuf};
@@ -390,25 +392,91 @@ int main(void) {
 }
 "#;
 
-/// The header in C11 and in C++17, without a warning; NULL where nothing is lent.
-#[test]
-fn the_header_in_c_and_in_cpp() {
+/// What a program prints, built as C11 and as C++17, each without a warning.
+fn in_c_and_in_cpp(text: &str, input: &[u8]) -> [String; 2] {
     let folder = Folder::new();
     let header = top().join("include");
-    let cpp = || compiler("ROSSINHIU_CXX", "g++");
-    for (name, standard, with) in [
-        ("null.c", "-std=c11", gcc()),
-        ("null.cpp", "-std=c++17", cpp()),
-    ] {
-        let (source, program) = (folder.at(name), folder.at("null"));
-        fs::write(&source, NULLS).unwrap();
-        let mut with = with;
+    let cpp = compiler("ROSSINHIU_CXX", "g++");
+    let builds = [
+        ("program.c", "-std=c11", gcc()),
+        ("program.cpp", "-std=c++17", cpp),
+    ];
+    builds.map(|(name, standard, mut with)| {
+        let (source, program) = (folder.at(name), folder.at("program"));
+        fs::write(&source, text).unwrap();
         with.arg(standard);
         let done = compiled(with, &header, &source, &program);
         let said = String::from_utf8_lossy(&done.stderr);
         assert!(done.status.success() && said.is_empty(), "{name}: {said}");
-        let ran = run(&mut command(&program, &[]), b"");
-        assert_eq!(ran.text(), "0 back 8 9 0 9 1 0 7 1 0 end 0 0\n", "{name}");
+        run(&mut command(&program, &[]), input).text()
+    })
+}
+
+/// NULL where nothing is lent.
+#[test]
+fn the_header_in_c_and_in_cpp() {
+    let due = "0 back 8 9 0 9 1 0 7 1 0 end 0 0\n";
+    assert_eq!(in_c_and_in_cpp(NULLS, b""), [due, due]);
+}
+
+/// A program that reads data sheets as the console's lines, prints the console's answers, and opens with the gaps wherever there are any.
+const SHEETS: &str = r#"
+#include "rossinhiu.h"
+#include <inttypes.h>
+#include <stdio.h>
+int main(void) {
+    uint64_t tck;
+    while (scanf(" gaps %" SCNu64, &tck) == 1) {
+        struct rossinhiu_times times;
+        for (int i = 0; i < 20; i++)
+            if (scanf("%" SCNu64, &times.time[i]) != 1)
+                return 1;
+        struct rossinhiu_sheet sheet = rossinhiu_gaps(tck, times);
+        printf("gaps %" PRIu64 " %" PRIu64, sheet.number, sheet.gap_number);
+        for (int i = 0; i < 20; i++)
+            printf(" %d", sheet.gaps.gap[i]);
+        printf("\n");
+        if (sheet.number == ROSSINHIU_BAD_TCK || sheet.number == ROSSINHIU_BAD_TIME)
+            continue;
+        uint8_t record[64] = {0};
+        struct rossinhiu_opened s = rossinhiu_open(rossinhiu_fresh(), record, sizeof record, 4, 1, 0, 7, sheet.gaps);
+        printf("open %" PRIu64 " ", s.number);
+        for (int i = 0; i < 64; i++)
+            printf("%02x", record[i]);
+        printf("\n");
+    }
+    return 0;
+}
+"#;
+
+/// What that program owes for a sheet that is answered so.
+fn sheet_by_model(told: &SheetAnswer) -> String {
+    if told.number != 0 {
+        return format!("{told}\n");
+    }
+    let mut record = [0; RECORD];
+    let opened = State::fresh().open(&mut record, (4, 1, 0), 7, told.gaps);
+    let hex: String = record.iter().map(|b| format!("{b:02x}")).collect();
+    format!("{told}\nopen {opened} {hex}\n")
+}
+
+/// 160 bytes of times by value, an answer of 56 bytes back, and its gaps in an opening.
+#[test]
+fn data_sheets_in_c_and_in_cpp() {
+    let mut rng = Rng::new(seed());
+    let (mut lines, mut due) = (String::new(), String::new());
+    for _ in 0..5_000 {
+        let sheet = any_sheet(&mut rng);
+        lines += &format!("{sheet}\n");
+        due += &sheet_by_model(&sheet.answer());
+    }
+    for came in in_c_and_in_cpp(SHEETS, lines.as_bytes()) {
+        let mut pairs = came.lines().zip(due.lines());
+        let other = pairs.find(|(came, due)| came != due);
+        assert!(came == due, "{other:?}");
+    }
+    for number in ["0", "13", "14"] {
+        assert!(due.contains(&format!("gaps {number} ")), "{number}");
     }
 }
 
@@ -422,7 +490,8 @@ fn another_layout_does_not_link() {
     let other = header.replace(&number, &format!("\"_{}\"", LAYOUT + 1));
     fs::write(folder.at("rossinhiu.h"), other).unwrap();
     let source = folder.at("fresh.c");
-    let text = "#include <rossinhiu.h>\nint main(void) { return rossinhiu_fresh().terms.is_open; }\n";
+    let text =
+        "#include <rossinhiu.h>\nint main(void) { return rossinhiu_fresh().terms.is_open; }\n";
     fs::write(&source, text).unwrap();
     let program = folder.at("fresh");
     let alike = compiled(gcc(), &top().join("include"), &source, &program);
@@ -436,9 +505,10 @@ fn another_layout_does_not_link() {
 }
 
 /// The number of the layout, and what it stands for: where sizes or offsets change, the next number goes into the header, the exported
-/// names and their names in Rust, and both are written here anew.
+/// names and their names in Rust, and both are written here anew. A struct that is added changes the fingerprint alone: the others are
+/// where they were.
 const LAYOUT: u64 = 2;
-const FINGERPRINT: u64 = 15_112_287_202_976_800_219;
+const FINGERPRINT: u64 = 9_427_775_065_063_354_913;
 
 fn fingerprint(text: &str) -> u64 {
     let step = |hash: u64, byte: u8| (hash ^ u64::from(byte)).wrapping_mul(0x100_0000_01b3);
@@ -469,6 +539,8 @@ fn the_headers_layout() {
         "rossinhiu_terms" ffi::Terms { rounded, opening, number, is_open }
         "rossinhiu_session" ffi::Session { last, entries, progress, terms }
         "rossinhiu_gaps" ffi::Gaps { gap }
+        "rossinhiu_times" ffi::Times { time }
+        "rossinhiu_sheet" ffi::Sheet { number, gap_number, gaps }
         "rossinhiu_opened" ffi::Opened { session, number }
         "rossinhiu_offered" ffi::Offered { session, number, cycle, gap }
         "rossinhiu_answer" ffi::Numbers { number, cycle, gap }
