@@ -54,7 +54,7 @@ fn examples_print_what_is_written(programs: &Programs) {
             names.insert(front.to_string());
         }
     }
-    for name in ["first", "settings-a", "odd-gaps"] {
+    for name in ["first", "settings-a", "odd-gaps", "data-sheet"] {
         let trace = bytes(&format!("{name}.trace"));
         let expected = text(&format!("{name}.out"));
         assert_eq!(modelled(&trace), expected, "{name} by the model");
@@ -154,6 +154,36 @@ fn the_guide_shows_a_summary() {
     for line in ran.summary.lines() {
         assert!(guide.contains(&format!("    {line}\n")), "{line}");
     }
+}
+
+/// What the guide types of a data sheet stands in the example, what it shows
+/// is printed, and its table has the same numbers.
+#[test]
+fn the_guide_goes_from_a_data_sheet_to_an_opening() {
+    let guide = fs::read_to_string(top().join("docs/GUIDE.md")).unwrap();
+    let title = "## From a data sheet to an opening\n";
+    let (_, behind) = guide.split_once(title).expect(title);
+    let section = behind.split("\n## ").next().unwrap();
+    let shown = section.lines().filter_map(|l| l.strip_prefix("    "));
+    let trace = text("data-sheet.trace");
+    let is_typed = |line: &&str| trace.lines().any(|l| l == *line);
+    let (typed, told): (Vec<&str>, Vec<&str>) = shown.partition(is_typed);
+    assert_eq!(
+        modelled((typed.join("\n") + "\n").as_bytes()),
+        told.join("\n") + "\n"
+    );
+    assert_eq!(typed[1], opening_a());
+    for answer in ["gaps 0 0 ", "open 0", "gaps 13 0 ", "gaps 14 17 "] {
+        assert!(told.iter().any(|l| l.starts_with(answer)), "{answer}");
+    }
+    let column = |n: usize| -> Vec<&str> {
+        let rows = section.lines().filter(|l| l.starts_with("| "));
+        rows.skip(1)
+            .map(|l| l.split(" | ").nth(n).unwrap().trim_end_matches(" |"))
+            .collect()
+    };
+    assert_eq!(format!("gaps 625 {}", column(3).join(" ")), typed[0]);
+    assert_eq!(format!("gaps 0 0 {}", column(4).join(" ")), told[0]);
 }
 
 // Traces of power tools.

@@ -41,13 +41,14 @@ fn every_answer_is_reached() {
     let lines: Vec<Vec<&str>> = text.lines().map(|l| l.split(' ').collect()).collect();
     let count = |front: &[&str]| lines.iter().filter(|l| l.starts_with(front)).count();
 
-    let calls: [(&str, &[&str]); 6] = [
+    let calls: [(&str, &[&str]); 7] = [
         ("open", &["0", "9", "10"]),
         ("offer", &["0", "1", "2", "3", "4", "5", "6", "7", "9"]),
         ("ask", &["0", "1", "2", "3", "4"]),
         ("back", &["0", "1", "8", "9"]),
         ("status", &["0", "1"]),
         ("restore", &["0", "11"]),
+        ("gaps", &["0", "13", "14"]),
     ];
     for (call, numbers) in calls {
         for number in numbers {
@@ -72,12 +73,13 @@ fn every_answer_is_reached() {
     assert!(lines.iter().any(|l| l[0] == "bytes" && l.len() == 2));
     assert!(count(&["?"]) >= 50);
 
-    let gaps = |call: &str, number: &str| -> BTreeSet<u64> {
+    let gaps = |call: &str, number: &str, place: usize| -> BTreeSet<u64> {
         let named = lines.iter().filter(|l| l.starts_with(&[call, number]));
-        named.map(|l| l[3].parse().unwrap()).collect()
+        named.map(|l| l[place].parse().unwrap()).collect()
     };
-    assert_eq!(gaps("offer", "7"), (1..=20).collect());
-    assert_eq!(gaps("ask", "0"), (0..=20).collect());
+    assert_eq!(gaps("offer", "7", 3), (1..=20).collect());
+    assert_eq!(gaps("ask", "0", 3), (0..=20).collect());
+    assert_eq!(gaps("gaps", "14", 2), (1..=20).collect());
 
     let above =
         |l: &Vec<&str>| l.starts_with(&["ask", "0"]) && l[2].parse::<u64>().unwrap() > LAST_CYCLE;
