@@ -170,6 +170,45 @@ struct rossinhiu_offered rossinhiu_offer(struct rossinhiu_session session, uint8
     ROSSINHIU_AS("rossinhiu_offer");
 
 /*
+ * Offers `listed` commands one after the other, up to the first refusal, as single calls of rossinhiu_offer would: the same state, the
+ * same bytes. The state is copied once for the call, not once for each command.
+ * `count` says how many were accepted; their records stand one behind the other from 64 * (records before the call) on. number,
+ * cycle and gap are the first refusal whole, as rossinhiu_offer gives it; all three are 0 if none was refused. Commands behind the
+ * refused one are not looked at. With `listed` 0 nothing is asked: 0, even with no session open.
+ *
+ * After a refusal in the middle: what was accepted stays accepted. Put its records on the disk, go on from the session handed back, and
+ * call again with commands[count] corrected, or without it: the commands behind it were not offered yet. With 9 there is no room for
+ * more. To undo what was accepted take it back, command by command; at most 64 in a row can be.
+ *
+ * On the disk: a power cut can lose one sector that was written and keep a later one. So write and sync the records of one aligned
+ * sector of 512 bytes, eight at most, before those of the next; else a hole may stand before records that a restore then never reaches.
+ */
+struct rossinhiu_command {
+    uint64_t kind;
+    uint64_t rank;
+    uint64_t bank;
+    uint64_t cycle;
+};
+struct rossinhiu_burst {
+    struct rossinhiu_session session; /* go on from it, once the records of the accepted commands are on the disk */
+    uint64_t count;
+    uint64_t number;
+    uint64_t cycle;
+    uint64_t gap;
+};
+struct rossinhiu_burst rossinhiu_offer_all(struct rossinhiu_session session, uint8_t *journal, size_t size,
+                                           const struct rossinhiu_command *commands, size_t listed)
+    ROSSINHIU_AS("rossinhiu_offer_all");
+
+/*
+ * The same, of commands that lie in pieces of 64 bytes, in the places of a command record: kind in byte 1, rank in 2, bank in 3, cycle
+ * in 8 to 15, the lowest first. No other byte is read, and up to 63 bytes left over are ignored. So records of another journal can be
+ * offered as they stand.
+ */
+struct rossinhiu_burst rossinhiu_offer_pieces(struct rossinhiu_session session, uint8_t *journal, size_t size, const uint8_t *pieces,
+                                              size_t pieces_size) ROSSINHIU_AS("rossinhiu_offer_pieces");
+
+/*
  * Asks for the earliest cycle at which a command may stand. Nothing is written.
  * number: the first that holds of 1, 2, 3, 4; else 0. With 0, `cycle` is that cycle, and `gap` the gap that asks for it, or 0 where no
  * gap asks for more than the cycle after the last surviving command. The cycle may be above ROSSINHIU_LAST_CYCLE; it can't be
@@ -263,7 +302,8 @@ struct rossinhiu_listed rossinhiu_list_part(struct rossinhiu_session session, co
  * `written` bytes of text stand at the front of `out`, without a newline: 0 if the line asks nothing (blank, or a comment), else at
  * most 512, so lend 512; with fewer nothing may be written. Behind the text belong `hex_count` bytes of the journal from `hex_from` on,
  * as lower-case hexadecimal; they never go past the journal.
- * If session.progress.records has grown by one, the line was accepted and its record written, at 64 times the count before.
+ * If session.progress.records has grown, the line was accepted, or some of a burst was, and the records were written one behind the
+ * other from 64 times the count before on.
  */
 #define ROSSINHIU_ANSWER_SIZE 512
 #define ROSSINHIU_NUMBERS 4096
@@ -301,8 +341,17 @@ static inline const uint8_t *rossinhiu_shown(const uint8_t *bytes) {
     return bytes == NULL ? &nothing : bytes;
 }
 
+static inline const struct rossinhiu_command *rossinhiu_commands(const struct rossinhiu_command *commands) {
+    static const struct rossinhiu_command none = {0, 0, 0, 0};
+    return commands == NULL ? &none : commands;
+}
+
 #define rossinhiu_open(session, journal, ...) rossinhiu_open(session, rossinhiu_lent(journal), __VA_ARGS__)
 #define rossinhiu_offer(session, journal, ...) rossinhiu_offer(session, rossinhiu_lent(journal), __VA_ARGS__)
+#define rossinhiu_offer_all(session, journal, size, commands, listed) \
+    rossinhiu_offer_all(session, rossinhiu_lent(journal), size, rossinhiu_commands(commands), listed)
+#define rossinhiu_offer_pieces(session, journal, size, pieces, pieces_size) \
+    rossinhiu_offer_pieces(session, rossinhiu_lent(journal), size, rossinhiu_shown(pieces), pieces_size)
 #define rossinhiu_take_back(session, journal, size) rossinhiu_take_back(session, rossinhiu_lent(journal), size)
 #define rossinhiu_restore(journal, size) rossinhiu_restore(rossinhiu_shown(journal), size)
 #define rossinhiu_list_part(session, part, part_size, last, out, out_size) \

@@ -1,2 +1,5 @@
+pub mod Again
+pub mod Element
+pub mod Short
 pub mod LanguageLaws
 pub mod Ties

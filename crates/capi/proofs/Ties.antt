@@ -8,6 +8,8 @@ use Rattle.session.specs.State.{freshState}
 use Rattle.judging.specs.Judged.{replyIn}
 use Rattle.statements.specs.Calls.{given, Opens, Offers, TakesBack, TellsEarliest, TellsStatus, PlacesStretch}
 use Rattle.statements.specs.Statements.{Restores}
+use Rattle.statements.specs.Bursts.{Bursts}
+use Rattle.journal.specs.Restore.{offersFrom}
 use Rattle.timing.proofs.Ties.{Ensures}
 use Rattle.checker.specs.Replies.{stretchTold}
 use Rattle.datasheet.specs.Sheet.{picoseconds, GivesGaps}
@@ -19,6 +21,8 @@ use Rattle.capi.proofs.calls.rossinhiu_open_2.Kinds as opens
 use Rattle.capi.proofs.calls.rossinhiu_open_2.Reads as open-reads
 use Rattle.capi.proofs.calls.rossinhiu_offer_2.Kinds as offers
 use Rattle.capi.proofs.calls.rossinhiu_offer_2.Reads as offer-reads
+use Rattle.capi.proofs.calls.rossinhiu_offer_pieces_2.Kinds as offers-pieces
+use Rattle.capi.proofs.calls.rossinhiu_offer_pieces_2.Reads as offer-pieces-reads
 use Rattle.capi.proofs.calls.rossinhiu_take_back_2.Kinds as takes-back
 use Rattle.capi.proofs.calls.rossinhiu_take_back_2.Reads as take-back-reads
 use Rattle.capi.proofs.calls.rossinhiu_earliest_2.Kinds as earliest
@@ -46,6 +50,10 @@ open-ensures κs a r s p = p
 offer-ensures : Ensures 1 offers.ps offers.r offer-reads.Post
     (λ κs a r s. Offers (a .0) (now (a .1 .0)) (a .1 .1 .0) (a .1 .1 .1 .0) (a .1 .1 .1 .1 .0) (a .1 .1 .1 .1 .1 .0) (replyIn (r .answer)) (r .session) (now (s .1 .0)))
 offer-ensures κs a r s p = p
+
+offer-pieces-ensures : Ensures 2 offers-pieces.ps offers-pieces.r offer-pieces-reads.Post
+    (λ κs a r s. Bursts (a .0) (now (a .1 .0)) (offersFrom (now (a .1 .1 .0))) (r .count) (replyIn (r .answer)) (r .session) (now (s .1 .0)))
+offer-pieces-ensures κs a r s p = p
 
 take-back-ensures : Ensures 1 takes-back.ps takes-back.r take-back-reads.Post
     (λ κs a r s. TakesBack (a .0) (now (a .1 .0)) (plain (r .number)) (r .session) (now (s .1 .0)))

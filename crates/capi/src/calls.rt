@@ -11,6 +11,8 @@ ghost use Rattle.session.specs.State.{freshState};
 ghost use Rattle.statements.specs.Rep.{Rep};
 ghost use Rattle.statements.specs.Calls.{given, Opens, Offers, TakesBack, TellsEarliest, TellsStatus, PlacesStretch};
 ghost use Rattle.statements.specs.Statements.{Restores};
+ghost use Rattle.statements.specs.Bursts.{Bursts};
+ghost use Rattle.journal.specs.Restore.{offersFrom};
 ghost use Rattle.judging.specs.Judged.{replyIn};
 ghost use Rattle.checker.specs.Replies.{stretchTold};
 ghost use Rattle.datasheet.specs.Sheet.{picoseconds, GivesGaps};
@@ -21,6 +23,8 @@ use crate::crossing::StatusNumbers;
 use crate::crossing::Times;
 use crate::crossing::one_if;
 use crate::crossing::status_numbers;
+use bursts::pieces::Burst;
+use bursts::pieces::offer_pieces;
 use checker::answers::Offered;
 use checker::answers::Opened;
 use checker::answers::Stretch;
@@ -76,6 +80,18 @@ pub extern "C" fn rossinhiu_offer_2(
     ensures { λ r. ⌜ Offers session (now (journal .entry)) kind rank bank cycle (replyIn (r .answer)) (r .session) (now (journal .exit)) ⌝ }
 {
     offer(session, journal, kind, rank, bank, ControllerCycles(cycle))
+}
+
+// A burst whose commands lie in pieces of 64 bytes, in the places of a command record.
+#[no_mangle]
+pub extern "C" fn rossinhiu_offer_pieces_2(
+    session: Session,
+    journal: &mut [u8],
+    pieces: &[u8],
+) -> Burst
+    ensures { λ r. ⌜ Bursts session (now (journal .entry)) (offersFrom (now (pieces .entry))) (r .count) (replyIn (r .answer)) (r .session) (now (journal .exit)) ⌝ }
+{
+    offer_pieces(session, journal, pieces)
 }
 
 #[no_mangle]

@@ -2,3 +2,4 @@
 pub mod calls;
 pub mod crossing;
 pub mod language;
+pub mod list;

@@ -2,3 +2,4 @@ mod Examples
 mod OutputLaws
 mod SayLaws
 mod RespondLaws
+pub mod BurstSaid

@@ -2,14 +2,17 @@
 use mathlib.Core.Path.{_≡_}
 use mathlib.Core.Bool.{cond}
 use mathlib.Core.List.{List, [], _∷_, _++_}
-use Prim.Native.Nat.{ℕ, zero, suc, _+_, _%_, min}
+use Prim.Native.Nat.{ℕ, zero, suc, _+_, _*_, _/_, _%_, min}
 use lib.Dec.{leb, ltb}
 use lib.ListN.{length, take, drop, set, getD}
 use Rattle.timing.specs.declared.clocks.DramCycles.{DramCycles}
+use Rattle.timing.specs.Clocks.{cycles}
 use Rattle.timing.specs.Earliest.{Settings}
 use Rattle.history.specs.Answers.{Reply, Verdict, replyOf, roomOf}
 use Rattle.session.specs.declared.state.Session.{Session}
+use Rattle.journal.specs.declared.records.Offer.{Offer}
 use Rattle.journal.specs.Restore.{bytesAfter, partOf}
+use Rattle.statements.specs.Bursts.{over, Burst, burstIn}
 use Rattle.statements.specs.Exact.{
   openIn,
   offerIn,
@@ -30,7 +33,7 @@ use Rattle.requests.specs.declared.forms.Request.the-variants as asks
 use Rattle.requests.specs.Forms.{noForm, formAt}
 use Rattle.console.specs.declared.respond.Response.{Response}
 use Rattle.datasheet.specs.Sheet.{picoseconds, gapsIn}
-use Rattle.console.specs.Say.{brief, full, statusNumbers, gapsNumbers}
+use Rattle.console.specs.Say.{brief, full, statusNumbers, gapsNumbers, burstNumbers}
 
 -- the row whose word the answer has, its numbers, the journal's bytes that are printed behind them as hexadecimal and the place where they stand, the
 -- state, how much is lent, and the journal
@@ -74,6 +77,21 @@ settingsOf ns =
       gaps = eachFrom gapFrom 20 4 ns;
     }
 
+-- the commands of a burst, four numbers each
+abbrev pub offerAt : List ℕ → ℕ → Offer
+offerAt ns i = record { kind = at ns (4 * i); rank = at ns (4 * i + 1); bank = at ns (4 * i + 2); cycle = cycles (at ns (4 * i + 3)) }
+
+-- n of them from the i-th on
+unfoldable pub offersIn : ℕ → ℕ → List ℕ → List Offer
+offersIn zero i ns = []
+offersIn (suc n) i ns = offerAt ns i ∷ offersIn n (i + 1) ns
+
+abbrev pub offersOf : List ℕ → List Offer
+offersOf ns = offersIn (length ns / 4) 0 ns
+
+abbrev pub bursts : ℕ → Burst Session → ℕ → List ℕ → Outcome
+bursts row b lent j = says row (burstNumbers (b .count) (b .reply)) (b .left .what) lent (b .left .journal ++ drop lent j)
+
 -- more than there is, is all of it
 abbrev pub lends : ℕ → ℕ → Session → List ℕ → Outcome
 lends row count s j = let n = min count (length j) in says row (n ∷ []) s n j
@@ -105,6 +123,7 @@ outcomeIn s j lent asks.Restore row ns = restores row (restoreIn (take (at ns 0)
 outcomeIn s j lent asks.Poke row ns = pokes row (at ns 0) (at ns 1 % 256) s lent j
 outcomeIn s j lent asks.Bytes row ns = shows row (at ns 0) (at ns 1) s lent j
 outcomeIn s j lent asks.Gaps row ns = says row (gapsNumbers (gapsIn (picoseconds (at ns 0)) (eachFrom picoseconds 20 1 ns))) s lent j
+outcomeIn s j lent asks.Burst row ns = bursts row (burstIn (over s (take lent j)) (offersOf ns)) lent j
 
 -- no more is lent than there is; the request is that of the row, and its numbers are the first of the array
 abbrev pub outcome : Session → List ℕ → ℕ → Asked → List ℕ → Outcome

@@ -26,6 +26,10 @@ statusNumbers s = s .number ∷ s .client ∷ s .opening ∷ s .survivors ∷ s 
 abbrev pub gapsNumbers : GapsAnswer → List ℕ
 gapsNumbers a = a .number ∷ a .«gap_number» ∷ map (λ g. g .0) (a .gaps)
 
+-- how many commands of a burst were accepted, and the first refusal
+abbrev pub burstNumbers : ℕ → Reply → List ℕ
+burstNumbers count r = count ∷ full r
+
 -- a space before the hexadecimal bytes, where there are any
 abbrev pub spaceBefore : ℕ → List ℕ
 spaceBefore count = cond (eqb count 0) [] space

@@ -8,6 +8,7 @@ ghost use Rattle.requests.specs.declared.forms.Request.the-variants as asks;
 ghost use Rattle.datasheet.specs.Sheet.{picoseconds};
 ghost use Rattle.console.specs.Respond.{eachFrom, gapFrom, outcomeIn, outcome, Responds, Says, Answers};
 use crate::say::Said;
+use crate::say::burst_said;
 use crate::say::gaps_said;
 use crate::say::numbered;
 use crate::say::status_said;
@@ -20,6 +21,7 @@ use checker::calls::stretch;
 use checker::calls::stretch_place;
 use checker::calls::take_back;
 use datasheet::sheet::Picoseconds;
+use judging::answers::Answer;
 use requests::forms::Request;
 use requests::forms::form_at;
 use requests::requests::Asked;
@@ -305,6 +307,59 @@ fn to_gaps(session: Session, lent: usize, asking: Asked, numbers: &[u64; 4096]) 
     }
 }
 
+// A number of a burst; 0 where it has none.
+fn nth_of(numbers: &[u64], asking: Asked, i: usize) -> u64
+    ensures { λ r. ⌜ r ≡ getD (take (asking .count) (now (numbers .entry))) i 0 ⌝ }
+{
+    if asking.count <= i {
+        return 0;
+    }
+    if numbers.len() <= i {
+        return 0;
+    }
+    numbers[i]
+}
+
+// The commands of a burst, each offered by itself.
+fn to_burst(
+    mut session: Session,
+    journal: &mut [u8],
+    lent: usize,
+    asking: Asked,
+    numbers: &[u64],
+) -> Response
+    requires { ⌜ lent ≤ length (now journal) ⌝ }
+    ensures { λ r. ⌜ Responds (outcomeIn session (now (journal .entry)) lent asks.Burst (asking .row) (take (asking .count) (now (numbers .entry)))) r (now (journal .exit)) ⌝ }
+{
+    let commands = smaller(asking.count as u64, numbers.len()) / 4;
+    let mut i = 0;
+    while i < commands {
+        let kind = nth_of(numbers, asking, 4 * i);
+        let rank = nth_of(numbers, asking, 4 * i + 1);
+        let bank = nth_of(numbers, asking, 4 * i + 2);
+        let cycle = ControllerCycles(nth_of(numbers, asking, 4 * i + 3));
+        let done = offer(session, &mut journal[..lent], kind, rank, bank, cycle);
+        let answer = done.answer;
+        if answer.number != Answer::ACCEPTED {
+            let said = burst_said(asking.row, i as u64, answer);
+            return Response {
+                session,
+                lent,
+                said,
+            };
+        }
+        let next = done.session;
+        session = next;
+        i += 1;
+    }
+    let said = burst_said(asking.row, i as u64, Answer::plain(Answer::ACCEPTED));
+    Response {
+        session,
+        lent,
+        said,
+    }
+}
+
 fn performed(
     session: Session,
     journal: &mut [u8],
@@ -331,6 +386,7 @@ fn performed(
         Request::Poke => to_poke(session, journal, lent, asking, numbers),
         Request::Bytes => to_bytes(session, journal, lent, asking, numbers),
         Request::Gaps => to_gaps(session, lent, asking, numbers),
+        Request::Burst => to_burst(session, journal, lent, asking, numbers),
     }
 }
 

@@ -4,11 +4,13 @@ ghost use mathlib.Core.List.{[]};
 ghost use Prim.Native.Nat.{min};
 ghost use lib.ListN.{take};
 ghost use Rattle.text.specs.Lines.{IsLine};
+ghost use Rattle.judging.specs.Judged.{replyIn};
 ghost use Rattle.checker.specs.Replies.{knownStatus, statusReplied};
 ghost use Rattle.requests.specs.Forms.{wordAt};
-ghost use Rattle.console.specs.Say.{saidText, saidOf, withBytes, statusNumbers, gapsNumbers, Tells};
+ghost use Rattle.console.specs.Say.{saidText, saidOf, withBytes, statusNumbers, gapsNumbers, burstNumbers, Tells};
 use checker::answers::Status;
 use checker::answers::StatusAnswer;
+use judging::answers::Answer;
 use requests::forms::WORDS;
 use requests::words::nth_word;
 use text::lines::Line;
@@ -100,6 +102,24 @@ pub fn gaps_said(row: usize, number: u64, gap: u64, gaps: [DramCycles; 20]) -> S
     Said {
         row,
         count: 22,
+        numbers,
+        hex_from: 0,
+        hex_count: 0,
+    }
+}
+
+pub fn burst_said(row: usize, accepted: u64, answer: Answer) -> Said
+    ensures { λ r. ⌜ Tells row (burstNumbers accepted (replyIn answer)) r ⌝ }
+{
+    let mut numbers = [0u64; 22];
+    numbers[0] = accepted;
+    numbers[1] = answer.number;
+    let cycle = answer.cycle;
+    numbers[2] = cycle.0;
+    numbers[3] = answer.gap;
+    Said {
+        row,
+        count: 4,
         numbers,
         hex_from: 0,
         hex_count: 0,

@@ -8,3 +8,4 @@ pub mod AlikeLaws
 pub mod ListingLaws
 pub mod NamedLaws
 pub mod OutcomeLaws
+pub mod BurstRuns

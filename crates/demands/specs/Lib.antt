@@ -5,3 +5,4 @@ pub mod Runs
 pub mod Alike
 pub mod Listings
 pub mod Named
+pub mod Bursts

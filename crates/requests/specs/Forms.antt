@@ -52,6 +52,7 @@ table =
     ∷ row "poke" asks.Poke 0 1 0 0 1 once inMemory
     ∷ row "bytes" asks.Bytes 0 2 0 0 0 once anywhere
     ∷ row "gaps" asks.Gaps 0 21 0 0 0 once anywhere
+    ∷ row "burst" asks.Burst 1 3 0 0 0 again anywhere
     ∷ []
 
 abbrev pub tableWords : List (List ℕ)

@@ -17,6 +17,7 @@ pub enum Request {
     Poke,
     Bytes,
     Gaps,
+    Burst,
 }
 
 // What stands behind a form's word: how many kinds, and behind them how many numbers of 64, 32, 16 and 8 bits; whether these come again
@@ -39,7 +40,8 @@ pub struct Place {
 }
 
 // The words of the table, in its order.
-pub const WORDS: [u8; 65] = *b"? open offer ask back status stretch lend restore poke bytes gaps";
+pub const WORDS: [u8; 71] =
+    *b"? open offer ask back status stretch lend restore poke bytes gaps burst";
 
 const FORMS: [Form; ROWS] = [
     Form(Request::Malformed, 0, 0, 0, 0, 0, false, true),
@@ -54,9 +56,10 @@ const FORMS: [Form; ROWS] = [
     Form(Request::Poke, 0, 1, 0, 0, 1, false, false),
     Form(Request::Bytes, 0, 2, 0, 0, 0, false, true),
     Form(Request::Gaps, 0, 21, 0, 0, 0, false, true),
+    Form(Request::Burst, 1, 3, 0, 0, 0, true, true),
 ];
 
-pub const ROWS: usize = 12;
+pub const ROWS: usize = 13;
 
 // The form of a row; what asks nothing has the place behind the last.
 pub fn form_at(row: usize) -> Form

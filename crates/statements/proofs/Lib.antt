@@ -4,4 +4,5 @@ pub mod KeepsLaws
 pub mod MeansLaws
 pub mod RestoreLaws
 pub mod RestoreMeans
+pub mod BurstLaws
 pub mod StretchLaws

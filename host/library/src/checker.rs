@@ -2,7 +2,7 @@
 //! call here is safe for every argument.
 
 use crate::ffi;
-use crate::ffi::{Gaps, Given, Numbers, Part, Session, Sheet, Status, Times};
+use crate::ffi::{Burst, Command, Gaps, Given, Numbers, Part, Session, Sheet, Status, Times};
 
 /// The state with which a bench begins.
 pub fn fresh() -> Session {
@@ -46,6 +46,33 @@ pub fn offer(
         cycle: done.cycle,
         gap: done.gap,
     }
+}
+
+/// How many of a burst's commands were accepted, and the first refusal, or zeros.
+fn ended(session: &mut Session, done: &Burst) -> (u64, Numbers) {
+    *session = done.session;
+    let (number, cycle, gap) = (done.number, done.cycle, done.gap);
+    (done.count, Numbers { number, cycle, gap })
+}
+
+/// Offers commands one after the other, up to the first refusal: how many were accepted, and that refusal, or zeros.
+pub fn offer_all(
+    session: &mut Session,
+    journal: &mut [u8],
+    commands: &[Command],
+) -> (u64, Numbers) {
+    let (at, size) = (journal.as_mut_ptr(), journal.len());
+    let (from, listed) = (commands.as_ptr(), commands.len());
+    let done = unsafe { ffi::rossinhiu_offer_all(*session, at, size, from, listed) };
+    ended(session, &done)
+}
+
+/// The same of commands in pieces of 64 bytes, in the places of a command record.
+pub fn offer_pieces(session: &mut Session, journal: &mut [u8], pieces: &[u8]) -> (u64, Numbers) {
+    let (at, size) = (journal.as_mut_ptr(), journal.len());
+    let (from, length) = (pieces.as_ptr(), pieces.len());
+    let done = unsafe { ffi::rossinhiu_offer_pieces(*session, at, size, from, length) };
+    ended(session, &done)
 }
 
 /// The earliest cycle of a command: the number, the cycle, the gap.

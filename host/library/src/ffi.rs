@@ -90,6 +90,26 @@ pub struct Offered {
     pub gap: u64,
 }
 
+/// A command as it is offered.
+#[repr(C)]
+#[derive(Clone, Copy, Debug, PartialEq, Eq)]
+pub struct Command {
+    pub kind: u64,
+    pub rank: u64,
+    pub bank: u64,
+    pub cycle: u64,
+}
+
+#[repr(C)]
+#[derive(Clone, Copy, Debug)]
+pub struct Burst {
+    pub session: Session,
+    pub count: u64,
+    pub number: u64,
+    pub cycle: u64,
+    pub gap: u64,
+}
+
 #[repr(C)]
 #[derive(Clone, Copy, Debug, PartialEq, Eq)]
 pub struct Numbers {
@@ -184,6 +204,22 @@ extern "C" {
         bank: u64,
         cycle: u64,
     ) -> Offered;
+    #[link_name = "rossinhiu_offer_all_2"]
+    pub fn rossinhiu_offer_all(
+        session: Session,
+        journal: *mut u8,
+        size: usize,
+        commands: *const Command,
+        listed: usize,
+    ) -> Burst;
+    #[link_name = "rossinhiu_offer_pieces_2"]
+    pub fn rossinhiu_offer_pieces(
+        session: Session,
+        journal: *mut u8,
+        size: usize,
+        pieces: *const u8,
+        pieces_size: usize,
+    ) -> Burst;
     #[link_name = "rossinhiu_earliest_2"]
     pub fn rossinhiu_earliest(session: Session, kind: u64, rank: u64, bank: u64) -> Numbers;
     #[link_name = "rossinhiu_take_back_2"]

@@ -85,15 +85,14 @@ impl Bench {
         Ok(())
     }
 
-    /// The record of an accepted call is kept before its answer is gathered; where it can't be, the call has no answer.
+    /// The records of a line are kept before its answer is gathered; where they can't be, it has no answer.
     fn line(&mut self, line: &[u8], ended: bool) -> Result<(), Trouble> {
         self.tally.lines += 1;
         let before = checker::records(&self.session);
         let (session, journal) = (&mut self.session, &mut self.journal);
         let said = self.console.line(session, journal, line, ended);
-        let is_written = checker::records(session) != before;
-        if let Some(file) = self.file.as_ref().filter(|_| is_written) {
-            journal::keep(file, journal, before)?;
+        if let Some(file) = &self.file {
+            journal::keep(file, journal, before..checker::records(session))?;
         }
         if said.text.is_empty() {
             return Ok(());

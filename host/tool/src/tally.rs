@@ -67,6 +67,11 @@ impl Tally {
                 return true;
             }
             b"open" | b"offer" | b"back" => &mut self.accepted,
+            // How many were accepted comes first; it is one line all the same.
+            b"burst" => {
+                words.next();
+                &mut self.accepted
+            }
             b"ask" | b"status" | b"restore" | b"gaps" => &mut self.told,
             _ => {
                 self.told += 1;

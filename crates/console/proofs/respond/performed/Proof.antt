@@ -18,7 +18,7 @@ performed-spec =
     (tie.spec (λ c. search needs) (λ c κs. search needs) (λ c. search needs) (λ c κs. search needs) (λ c. search needs) (λ c κs. search needs)
     (λ c. search needs) (λ c κs. search needs) (λ c. search needs) (λ c κs. search needs) (λ c. search needs) (λ c κs. search needs)
     (λ c. search needs) (λ c κs. search needs) (λ c. search needs) (λ c κs. search needs) (λ c. search needs) (λ c κs. search needs)
-    (λ c. search needs) (λ c κs. search needs) (λ c. search needs) (λ c κs. search needs) (λ c. search needs) (λ c κs. search needs) (λ c. search needs) (λ c κs. search needs) returns returns-2
+    (λ c. search needs) (λ c κs. search needs) (λ c. search needs) (λ c κs. search needs) (λ c. search needs) (λ c κs. search needs) (λ c. search needs) (λ c κs. search needs) (λ c. search needs) (λ c κs. search needs) returns returns-2
     (λ c. search needs) (λ c. rw (c .before .before .before .before .enum-told3 .given .1) (c .before .before .to-open .ensures)) (λ c. search needs)
     (λ c. rw (c .before .before .before .before .enum-told4 .given .1) (c .before .before .to-offer .ensures))
     (λ c. rw (c .before .enum-told5 .given .1) (c .to-ask .ensures _)) (λ c. search needs)
@@ -29,4 +29,5 @@ performed-spec =
     (λ c. rw (c .before .before .enum-told10 .given .1) (c .to-restore .ensures _)) (λ c. search needs)
     (λ c. rw (c .before .before .before .before .enum-told11 .given .1) (c .before .before .to-poke .ensures)) (λ c. search needs)
     (λ c. rw (c .before .before .enum-told12 .given .1) (c .to-bytes .ensures))
-    (λ c. rw (c .before .enum-told13 .given .1) (c .to-gaps .ensures _)))
+    (λ c. rw (c .before .enum-told13 .given .1) (c .to-gaps .ensures _)) (λ c. search needs)
+    (λ c. rw (c .before .before .before .before .before .enum-told14 .given .1) (c .before .before .to-burst .ensures)))

@@ -1,0 +1,149 @@
+-- `offer_pieces` meets its contract: command after command, until one is refused or none is left.
+use mathlib.Core.Path.{_≡_, refl, sym, _∙_, ap}
+use Prim.Native.Nat.{_+_, _-_}
+use native.Mathlib.Omega.{arith}
+use lib.ListN.{length}
+use Rattle.history.specs.Records.{command}
+use Rattle.history.specs.Answers.{roomOf}
+use Rattle.journal.specs.declared.records.Offer.{Offer}
+use Rattle.journal.specs.Bytes.{offerFrom}
+use Rattle.journal.specs.Restore.{offersFrom}
+use Rattle.journal.proofs.PieceLaws.{piece, piece-is, piece-size}
+use Rattle.judging.specs.Judged.{replyIn}
+use Rattle.statements.specs.Bursts.{over, verdictIn}
+use Rattle.statements.proofs.BurstLaws.{bursts, Bursting, bursting-start, bursting-end, bursting-refused, bursting-accepted, leftFrom, left-all, left-none, left-one}
+use Rattle.bursts.specs.Taken.{Takes}
+use borrow.Author.Needs.{needs}
+use Rattle.bursts.proofs.pieces.offer_pieces.Statement.{statement}
+use Rattle.bursts.proofs.pieces.offer_pieces.Tie as tie
+
+abbrev Inv-loop : tie.InvT-loop
+Inv-loop journal₀ pieces session₀ whole most i₀ journal session i = Bursting session₀ journal₀ (offersFrom pieces) session journal i (leftFrom pieces i) × (length journal ≡ length journal₀)
+
+abbrev μ-loop : tie.MeasureT-loop
+μ-loop journal₀ pieces session₀ whole most i₀ journal session i = whole - i
+
+room-of-requires : tie.Need-room-of-requires Inv-loop μ-loop
+room-of-requires c κs = search needs
+
+loop-holds : tie.Need-loop-holds Inv-loop μ-loop
+loop-holds c = let a = c .before .before .before .args in (rw (left-all (a .pieces .now)) (bursting-start (a .t1) (a .journal .now) (offersFrom (a .pieces .now))), refl)
+
+mul-start : tie.Need-mul-start Inv-loop μ-loop
+mul-start c = search needs
+
+add-end : tie.Need-add-end Inv-loop μ-loop
+add-end c = search needs
+
+sub-read-offer : tie.Need-sub-read-offer Inv-loop μ-loop
+sub-read-offer c = search needs
+
+part-read-offer-start : tie.Need-part-read-offer-start Inv-loop μ-loop
+part-read-offer-start c = search needs
+
+part-read-offer-end : tie.Need-part-read-offer-end Inv-loop μ-loop
+part-read-offer-end c = search needs
+
+read-offer-requires : tie.Need-read-offer-requires Inv-loop μ-loop
+read-offer-requires c κs = let p = c .before .before .before .before .before .before .args .pieces .now in let i = c .before .before .loop .i in rw (piece-is i p) (piece-size i p (c .before .loop-test .taken))
+
+take-one-requires : tie.Need-take-one-requires Inv-loop μ-loop
+take-one-requires c κs = search needs
+
+same-length : tie.Need-same-length Inv-loop μ-loop
+same-length c = c .before .before .before .before .before .before .before .loop .inv .1
+
+returns : tie.Need-returns Inv-loop μ-loop
+returns c =
+    let a = c .before .before .before .before .before .before .before .before .before .before .before .args in
+    let l = c .before .before .before .before .before .before .before .loop in
+    let more = c .before .before .before .before .before .before .loop-test .taken in
+    let p = a .pieces .now in
+    let asked = c .before .before .before .before .read-offer in
+    let is : asked .result ≡ offerFrom (piece (l .i) p) = rw (piece-is (l .i) p) at (asked .ensures) in
+    let most = c .before .before .before .before .before .before .before .before .room-of .ensures ∙ ap roomOf (sym (l .inv .1)) in
+    let took = rw most at (c .before .before .before .take-one .ensures) in
+    let here = ap (verdictIn (over (l .session) (l .journal))) (sym is) in
+    bursts (bursting-refused (a .t1) (a .journal .now) (offersFrom p) (l .session) (l .journal) (l .i) (offerFrom (piece (l .i) p)) (leftFrom p (l .i + 1)) (rw (left-one p (l .i) more) at (l .inv .0)) _ (here ∙ took .refuses (c .if1 .taken)))
+
+write-command-requires : tie.Need-write-command-requires Inv-loop μ-loop
+write-command-requires c κs =
+    let l = c .before .before .before .before .before .before .before .before .before .before .loop in
+    let most = c .before .before .before .before .before .before .before .before .before .before .before .room-of .ensures ∙ ap roomOf (sym (l .inv .1)) in
+    let took = rw most at (c .before .before .before .before .before .before .take-one .ensures) in
+    omega (arith, took .free (c .before .before .before .if1 .left))
+
+mul-entry : tie.Need-mul-entry Inv-loop μ-loop
+mul-entry c = omega (arith, c .before .before .before .before .before .before .before .before .before .before .take-one .ensures .at)
+
+element-set-from-entry : tie.Need-element-set-from-entry Inv-loop μ-loop
+element-set-from-entry c = omega (arith, c .before .before .before .before .before .before .before .before .before .before .take-one .ensures .at)
+
+mul-stamp : tie.Need-mul-stamp Inv-loop μ-loop
+mul-stamp c = omega (arith, c .before .before .before .before .before .before .before .before .before .before .before .take-one .ensures .slot)
+
+element-set-from-stamp : tie.Need-element-set-from-stamp Inv-loop μ-loop
+element-set-from-stamp c = omega (arith, c .before .before .before .before .before .before .before .before .before .before .before .take-one .ensures .slot)
+
+add-i : tie.Need-add-i Inv-loop μ-loop
+add-i c = omega (arith, c .before .before .before .before .before .before .before .before .before .before .before .before .before .before .before .loop-test .taken, c .before .before .before .before .before .before .before .before .before .before .before .before .before .before .before .before .before .before .before .before .good .1 .1 .0)
+
+loop-less : tie.Need-loop-less Inv-loop μ-loop
+loop-less c = omega (arith, c .before .before .before .before .before .before .before .before .before .before .before .before .before .before .before .loop-test .taken)
+
+loop-again : tie.Need-loop-again Inv-loop μ-loop
+loop-again c =
+    let a = c .before .before .before .before .before .before .before .before .before .before .before .before .before .before .before .before .before .before .before .before .args in
+    let l = c .before .before .before .before .before .before .before .before .before .before .before .before .before .before .before .before .loop in
+    let more = c .before .before .before .before .before .before .before .before .before .before .before .before .before .before .before .loop-test .taken in
+    let p = a .pieces .now in
+    let asked = c .before .before .before .before .before .before .before .before .before .before .before .before .before .read-offer in
+    let is : asked .result ≡ offerFrom (piece (l .i) p) = rw (piece-is (l .i) p) at (asked .ensures) in
+    let most = c .before .before .before .before .before .before .before .before .before .before .before .before .before .before .before .before .before .room-of .ensures ∙ ap roomOf (sym (l .inv .1)) in
+    let took = rw most at (c .before .before .before .before .before .before .before .before .before .before .before .before .take-one .ensures) in
+    let here = ap (verdictIn (over (l .session) (l .journal))) (sym is) in
+    let passed = c .before .before .before .before .before .before .before .before .before .if1 .left in
+    let wrote = c .before .before .before .before .before .write-command in
+    (bursting-accepted (a .t1) (a .journal .now) (offersFrom p) (l .session) (l .journal) (l .i) (offerFrom (piece (l .i) p)) (leftFrom p (l .i + 1)) (rw (left-one p (l .i) more) at (l .inv .0)) _ _ _ _ (here ∙ took .takes passed) (took .state) (wrote .ensures), c .before .before .before .before .journal .given ∙ l .inv .1)
+
+plain-requires : tie.Need-plain-requires Inv-loop μ-loop
+plain-requires c κs = search needs
+
+same-length-2 : tie.Need-same-length-2 Inv-loop μ-loop
+same-length-2 c = c .before .before .loop .inv .1
+
+returns-2 : tie.Need-returns-2 Inv-loop μ-loop
+returns-2 c =
+    let a = c .before .before .before .before .before .before .args in
+    let l = c .before .before .loop in
+    let p = a .pieces .now in
+    rw (c .plain .ensures) (bursts (bursting-end (a .t1) (a .journal .now) (offersFrom p) (l .session) (l .journal) (l .i) (rw (left-none p (l .i) (c .before .loop-test .left)) at (l .inv .0))))
+
+pub offer-pieces-spec : {M : Type 1} → statement M
+offer-pieces-spec =
+    tie.close
+    (tie.spec
+    Inv-loop
+    μ-loop
+    room-of-requires
+    loop-holds
+    mul-start
+    add-end
+    sub-read-offer
+    part-read-offer-start
+    part-read-offer-end
+    read-offer-requires
+    take-one-requires
+    same-length
+    returns
+    write-command-requires
+    mul-entry
+    element-set-from-entry
+    mul-stamp
+    element-set-from-stamp
+    add-i
+    loop-less
+    loop-again
+    plain-requires
+    same-length-2
+    returns-2)
