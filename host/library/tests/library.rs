@@ -3,11 +3,14 @@
 //! ROSSINHIU_CALLS gives another number of calls, ROSSINHIU_SEED the first seed.
 
 use rossinhiu::checker::{self, Console, Said};
-use rossinhiu::ffi::{Numbers, Part, Session};
+use rossinhiu::ffi::{self, Numbers, Part, Session};
+use rossinhiu_model::burst_calls::{compare_burst_calls, Checker};
 use rossinhiu_model::console as model_console;
 use rossinhiu_model::generate::{script, Rng, MOODS, SETTINGS_A};
 use rossinhiu_model::listing;
-use rossinhiu_model::model::{Command, State, LAST_CYCLE, MOST_RECORDS, RECORD};
+use rossinhiu_model::model::{
+    Answer, BurstAnswer, Command, State, Status, LAST_CYCLE, MOST_RECORDS, RECORD,
+};
 use rossinhiu_model::sheet::SheetAnswer;
 use rossinhiu_model::sheet_calls::compare_gaps_calls;
 use rossinhiu_speed::twin;
@@ -380,6 +383,111 @@ fn gaps_as_the_model() {
     println!(
         "{} data sheets",
         asked.unwrap_or_else(|report| panic!("{report}"))
+    );
+}
+
+/// The library as the model's comparison of bursts drives it.
+struct Library {
+    session: Session,
+    journal: Vec<u8>,
+}
+
+fn as_model(numbers: Numbers) -> Answer {
+    Answer {
+        number: numbers.number,
+        cycle: u128::from(numbers.cycle),
+        gap: numbers.gap,
+    }
+}
+
+fn burst((count, refusal): (u64, Numbers)) -> BurstAnswer {
+    BurstAnswer {
+        count: count as usize,
+        refusal: as_model(refusal),
+    }
+}
+
+impl Checker for Library {
+    fn open(&mut self, settings: (u64, u64, u64), client: u32, gaps: [u16; 20]) -> u64 {
+        checker::open(
+            &mut self.session,
+            &mut self.journal,
+            settings,
+            client,
+            &gaps,
+        )
+    }
+
+    fn offer(&mut self, one: Command) -> Answer {
+        let (session, journal) = (&mut self.session, &mut self.journal);
+        as_model(checker::offer(
+            session, journal, one.kind, one.rank, one.bank, one.cycle,
+        ))
+    }
+
+    fn back(&mut self) -> u64 {
+        checker::take_back(&mut self.session, &mut self.journal)
+    }
+
+    fn burst(&mut self, list: &[Command]) -> BurstAnswer {
+        let commands: Vec<ffi::Command> = list
+            .iter()
+            .map(|one| ffi::Command {
+                kind: one.kind,
+                rank: one.rank,
+                bank: one.bank,
+                cycle: one.cycle,
+            })
+            .collect();
+        burst(checker::offer_all(
+            &mut self.session,
+            &mut self.journal,
+            &commands,
+        ))
+    }
+
+    fn burst_bytes(&mut self, pieces: &[u8]) -> BurstAnswer {
+        burst(checker::offer_pieces(
+            &mut self.session,
+            &mut self.journal,
+            pieces,
+        ))
+    }
+
+    fn ask(&self, kind: u64, rank: u64, bank: u64) -> Answer {
+        as_model(checker::earliest(&self.session, kind, rank, bank))
+    }
+
+    fn status(&self) -> Status {
+        let s = checker::status(&self.session);
+        Status {
+            number: s.number,
+            client: s.client,
+            opening: s.opening as usize,
+            survivors: s.survivors as usize,
+            depth: s.depth,
+            last: s.last,
+            records: s.records as usize,
+        }
+    }
+
+    fn journal(&self) -> &[u8] {
+        &self.journal
+    }
+}
+
+/// Bursts as structs and as bytes, among openings, offers and take-backs: about as many commands as there are calls above.
+#[test]
+fn bursts_as_the_model() {
+    let fresh = |journal| Library {
+        session: checker::fresh(),
+        journal,
+    };
+    let rounds = calls_wanted() / 1_000;
+    let handed = compare_burst_calls(first_seed(), rounds, u64::MAX, fresh);
+    println!(
+        "{} commands in bursts",
+        handed.unwrap_or_else(|report| panic!("{report}"))
     );
 }
 

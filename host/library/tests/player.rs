@@ -508,7 +508,7 @@ fn another_layout_does_not_link() {
 /// names and their names in Rust, and both are written here anew. A struct that is added changes the fingerprint alone: the others are
 /// where they were.
 const LAYOUT: u64 = 2;
-const FINGERPRINT: u64 = 9_427_775_065_063_354_913;
+const FINGERPRINT: u64 = 4_271_491_509_093_967_012;
 
 fn fingerprint(text: &str) -> u64 {
     let step = |hash: u64, byte: u8| (hash ^ u64::from(byte)).wrapping_mul(0x100_0000_01b3);
@@ -543,6 +543,8 @@ fn the_headers_layout() {
         "rossinhiu_sheet" ffi::Sheet { number, gap_number, gaps }
         "rossinhiu_opened" ffi::Opened { session, number }
         "rossinhiu_offered" ffi::Offered { session, number, cycle, gap }
+        "rossinhiu_command" ffi::Command { kind, rank, bank, cycle }
+        "rossinhiu_burst" ffi::Burst { session, count, number, cycle, gap }
         "rossinhiu_answer" ffi::Numbers { number, cycle, gap }
         "rossinhiu_taken_back" ffi::TakenBack { session, number }
         "rossinhiu_standing" ffi::Status { number, client, opening, survivors, depth, last, records }

@@ -1,6 +1,6 @@
 //! The console's text language over the model, the journal's memory with it.
 
-use crate::model::{Answer, Command, State, NAMES};
+use crate::model::{Answer, BurstAnswer, Command, State, NAMES};
 use crate::sheet::Sheet;
 
 /// Bytes of the journal in memory.
@@ -74,8 +74,30 @@ fn sheet(words: &[&[u8]]) -> Option<Sheet> {
     Some(Sheet { tck, times })
 }
 
+/// A kind, a rank, a bank and a cycle.
+fn command(words: &[&[u8]]) -> Option<Command> {
+    let [name, rank, bank, cycle] = words else {
+        return None;
+    };
+    Some(Command {
+        kind: kind(name)?,
+        rank: long(rank)?,
+        bank: long(bank)?,
+        cycle: long(cycle)?,
+    })
+}
+
+/// Commands one behind the other, or none at all.
+pub(crate) fn commands(words: &[&[u8]]) -> Option<Vec<Command>> {
+    words.chunks(4).map(command).collect()
+}
+
 fn with_place(word: &str, answer: Answer) -> String {
     format!("{word} {} {} {}", answer.number, answer.cycle, answer.gap)
+}
+
+pub(crate) fn burst_answer(answer: BurstAnswer) -> String {
+    with_place(&format!("burst {}", answer.count), answer.refusal)
 }
 
 impl Console {
@@ -154,14 +176,14 @@ impl Console {
                 let answer = self.state.open(lent, numbers, client, gaps);
                 Some(format!("open {answer}"))
             }
-            (b"offer", [name, rank, bank, cycle]) => {
-                let command = Command {
-                    kind: kind(name)?,
-                    rank: long(rank)?,
-                    bank: long(bank)?,
-                    cycle: long(cycle)?,
-                };
-                Some(with_place("offer", self.state.offer(lent, command)))
+            (b"offer", words) => {
+                let answer = self.state.offer(lent, command(words)?);
+                Some(with_place("offer", answer))
+            }
+            // Nothing is played of a line that is malformed at its end.
+            (b"burst", words) => {
+                let commands = commands(words)?;
+                Some(burst_answer(self.state.burst(lent, &commands)))
             }
             (b"ask", [name, rank, bank]) => {
                 let answer = self.state.ask(kind(name)?, long(rank)?, long(bank)?);
@@ -423,5 +445,125 @@ mod tests {
         let mut gaps = [0; 20];
         gaps[..5].copy_from_slice(&[0, 1, 42, 43, 65_535]);
         assert_eq!(console.state.session().unwrap().1.gaps, gaps);
+    }
+
+    /// A console with settings A open, and the lines' answers.
+    fn answers(in_file: bool, lines: &[&str]) -> Vec<String> {
+        let mut console = Console::new();
+        console.in_file = in_file;
+        let opening = crate::generate::opening_a();
+        assert_eq!(console.line(opening.as_bytes(), true).unwrap(), "open 0");
+        let answer = |line: &&str| console.line(line.as_bytes(), true).unwrap();
+        lines.iter().map(answer).collect()
+    }
+
+    #[test]
+    fn bursts_are_told() {
+        for (line, told, status) in [
+            ("burst", "0 0 0 0", "0 0 0 1"),
+            ("burst ACT 0 0 0", "1 0 0 0", "1 1 0 2"),
+            ("burst 1 0 0 0 2 0 0 5", "2 0 0 0", "2 2 5 3"),
+            ("burst ACT 0 0 0 RD 0 0 4 RD 0 0 5", "1 7 5 3", "1 1 0 2"),
+            ("burst ACT 0 0 7 RD 0 0 7", "1 6 0 0", "1 1 7 2"),
+            ("burst ACT 0 0 0 8 0 0 5", "1 2 0 0", "1 1 0 2"),
+            ("burst ACT 0 0 0 257 0 0 5", "1 2 0 0", "1 1 0 2"),
+            ("burst ACT 0 0 0 RD 4294967296 0 5", "1 3 0 0", "1 1 0 2"),
+            ("burst PREAB 0 1 0 ACT 0 0 0", "0 4 0 0", "0 0 0 1"),
+            ("burst ACT 0 0 1099511627776", "0 5 0 0", "0 0 0 1"),
+            (
+                "burst ACT 0 0 1099511627775 RD 0 0 1099511627776",
+                "1 5 0 0",
+                "1 1 1099511627775 2",
+            ),
+            ("burst 18446744073709551615 0 0 0", "0 2 0 0", "0 0 0 1"),
+            (
+                "burst 0001 00 0000000000000000000000000 00",
+                "1 0 0 0",
+                "1 1 0 2",
+            ),
+        ] {
+            for in_file in [false, true] {
+                let [burst, status_told] = &answers(in_file, &[line, "status"])[..] else {
+                    panic!("two answers");
+                };
+                assert_eq!(*burst, format!("burst {told}"), "{line}");
+                assert_eq!(*status_told, format!("status 0 7 0 {status}"), "{line}");
+            }
+        }
+    }
+
+    /// With no session: nothing is accepted with 0, something is refused with 1.
+    #[test]
+    fn bursts_without_a_session() {
+        assert_eq!(one_line("burst"), "burst 0 0 0 0\n");
+        assert_eq!(one_line(" \tburst \t \r"), "burst 0 0 0 0\n");
+        assert_eq!(one_line("burst ACT 0 0 0"), "burst 0 1 0 0\n");
+        assert_eq!(
+            one_line("burst 9 9 99 18446744073709551615"),
+            "burst 0 1 0 0\n"
+        );
+        assert_eq!(printed(b"burst"), "?\n");
+    }
+
+    /// Whatever stands before the fault is not played.
+    #[test]
+    fn bursts_that_are_malformed() {
+        let good = "ACT 0 0 0 RD 0 0 5";
+        for line in [
+            format!("burst {good} WR"),
+            format!("burst {good} WR 0"),
+            format!("burst {good} WR 0 0"),
+            format!("burst 2 {good}"),
+            format!("burst {good} act 0 0 90"),
+            format!("burst {good} WR 0 0 18446744073709551616"),
+            format!("burst {good} 18446744073709551616 0 0 90"),
+            format!("burst {good} WR 0 -1 90"),
+            format!("burst {good} WR RD 0 90"),
+            format!("burst {good} WR 0 0 90\u{b}"),
+            format!("burst ACT,0,0,0 {good}"),
+            format!("Burst {good}"),
+            format!("bursts {good}"),
+            format!("burst{good}"),
+        ] {
+            for in_file in [false, true] {
+                let told = answers(in_file, &[&line, "status", "bytes 64 2"]);
+                assert_eq!(told, ["?", "status 0 7 0 0 0 0 1", "bytes 0000"], "{line}");
+            }
+        }
+    }
+
+    /// The most commands, a line that is just full, and one byte more.
+    #[test]
+    fn bursts_of_full_lines() {
+        let most = format!("burst{}", " 1 0 0 0".repeat(511));
+        assert_eq!(most.len(), 4_093);
+        let full = |line: &str, length: usize| format!("{line:0<length$}");
+        let told = |line: &str| answers(false, &[line]).remove(0);
+        assert_eq!(told(&most), "burst 1 6 0 0");
+        assert_eq!(told(&full(&most, 4_096)), "burst 1 6 0 0");
+        assert_eq!(told(&full(&most, 4_097)), "?");
+        assert_eq!(told(&format!("{most} 1 0 0 0")), "?");
+        assert_eq!(told(&format!("{most}  \r")), "burst 1 6 0 0");
+        assert_eq!(told(&format!("{most}   \r")), "?");
+    }
+
+    /// A burst in the middle of which the room that is lent runs out.
+    #[test]
+    fn bursts_without_room() {
+        let list = "burst ACT 0 0 0 RD 0 0 5 RD 0 0 10";
+        for in_file in [false, true] {
+            let told = answers(
+                in_file,
+                &["lend 191", list, "burst", "status", "bytes 128 1"],
+            );
+            let due = [
+                "lend 191",
+                "burst 1 9 0 0",
+                "burst 0 0 0 0",
+                "status 0 7 0 1 1 0 2",
+            ];
+            assert_eq!(told[..4], due);
+            assert_eq!(told[4], "bytes 00");
+        }
     }
 }

@@ -5,6 +5,7 @@
 
 use crate::generate::Rng;
 use crate::harness::{assert_file, Call};
+use crate::model::RECORD;
 use std::collections::BTreeMap;
 use std::fs;
 use std::path::{Path, PathBuf};
@@ -217,6 +218,22 @@ impl Told {
     }
 }
 
+/// How many bytes of a run a kill or a power cut left. `before` is the file at the run's start, `after` what the whole run leaves. The first bytes are the
+/// new ones, and behind them all is as it was, or zeros where the file has grown: a hole with records behind it is a fault.
+pub fn new_bytes(before: &[u8], after: &[u8], left: &[u8]) -> Result<usize, String> {
+    let same = left.iter().zip(after).take_while(|(a, b)| a == b).count();
+    let old = |at: usize| before.get(at).copied().unwrap_or(0);
+    match (same..left.len()).find(|at| left[*at] != old(*at)) {
+        None => Ok(same),
+        Some(at) => {
+            let [hole, behind] = [same, at].map(|at| at / RECORD);
+            Err(format!(
+                "a hole at record {hole}, bytes of record {behind} behind it"
+            ))
+        }
+    }
+}
+
 #[cfg(test)]
 mod tests {
     use super::*;
@@ -325,5 +342,33 @@ mod tests {
         told.assert_kept(&disk, "before");
         told.add(b"ab");
         told.assert_kept(&disk, "now");
+    }
+
+    /// Records 1 to 4 of a run over one record and ten loose bytes.
+    #[test]
+    fn what_a_run_leaves_is_a_front() {
+        let before = [vec![9; 64], vec![8; 10]].concat();
+        let after = [vec![9; 64], vec![1; 64], vec![2; 64], vec![3; 64]].concat();
+        let new = |left: &[u8]| new_bytes(&before, &after, left);
+        assert_eq!(new(&before), Ok(64));
+        for end in 64..=after.len() {
+            let old = before.get(end..).unwrap_or_default();
+            assert_eq!(new(&[&after[..end], old].concat()), Ok(end));
+            // The file has grown, and the bytes are lost; the loose ones stay where nothing took their place.
+            let mut grown = after[..end].to_vec();
+            grown.resize(after.len(), 0);
+            assert_eq!(new(&grown).is_ok(), !(64..74).contains(&end), "{end}");
+        }
+        for hole in 1..3 {
+            let mut left = after.clone();
+            left[64 * hole..64 * (hole + 1)].fill(0);
+            let fault = new(&left).unwrap_err();
+            assert!(
+                fault.contains(&format!("a hole at record {hole}")),
+                "{fault}"
+            );
+        }
+        // A record from before is gone.
+        assert!(new(&[vec![0; 64], after[64..].to_vec()].concat()).is_err());
     }
 }

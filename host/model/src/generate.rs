@@ -7,10 +7,28 @@ use crate::model::{
     bytes_of, Command, Record, State, ACT, LAST_CYCLE, NAMES, PREAB, PREPB, RD, RECORD, REFAB,
     REFPB, WR,
 };
-use crate::sheet_calls::{any_sheet, gaps_line_of_length, malformed_gaps_line, sheet_of};
+use crate::sheet_calls::{any_sheet, malformed_gaps_line, sheet_of};
+
+mod bursts;
 
 /// Whether scripts and steps have `gaps` lines: once the programs under test know the form.
 pub const GAPS_LINES: bool = true;
+/// The same for `burst` lines.
+pub const BURST_LINES: bool = true;
+
+/// The requests' forms that scripts and steps have lines of. Without a form the same numbers
+/// are drawn as if there were none.
+#[derive(Clone, Copy, Debug)]
+pub struct Forms {
+    pub gaps: bool,
+    pub bursts: bool,
+}
+
+/// What the programs under test know.
+pub const FORMS: Forms = Forms {
+    gaps: GAPS_LINES,
+    bursts: BURST_LINES,
+};
 
 /// Small generator of numbers (splitmix64).
 pub struct Rng(u64);
@@ -135,14 +153,14 @@ impl Script {
 
 /// The script of a seed.
 pub fn script(seed: u64, lines: usize) -> Script {
-    script_with(seed, lines, GAPS_LINES)
+    script_with(seed, lines, FORMS)
 }
 
-/// With or without `gaps` lines.
-pub fn script_with(seed: u64, lines: usize, gaps_lines: bool) -> Script {
+/// With the lines of these forms.
+pub fn script_with(seed: u64, lines: usize, forms: Forms) -> Script {
     let mood = MOODS[(seed % MOODS.len() as u64) as usize];
     let mut player = Player::new(seed, mood, lines);
-    player.gaps_lines = gaps_lines;
+    player.forms = forms;
     player.play();
     Script {
         seed,
@@ -211,6 +229,19 @@ const EDGES: [u64; 44] = [
     u64::MAX - 2,
     u64::MAX - 1,
     u64::MAX,
+];
+
+/// A line with zeros before its last word, so that it has so many bytes.
+pub fn padded(line: &str, length: usize) -> String {
+    let (front, last) = line.rsplit_once(' ').unwrap_or((line, ""));
+    let width = length.saturating_sub(front.len() + 1);
+    format!("{front} {last:0>width$}")
+}
+
+/// Words that are no kind, though they look like one.
+pub const NO_KINDS: [&str; 17] = [
+    "act", "Act", "rd", "wr", "Prepb", "PREpb", "preab", "refab", "REF", "PRE", "ACTT", "AC",
+    "RDA", "RD1", "REFpb", "PREPB,", "A",
 ];
 
 /// Numbers beyond 64 bits; some come out small if they are let wrap.
@@ -307,19 +338,54 @@ const TASTES: [[(u64, u64); 7]; 6] = [
     ],
 ];
 
+/// The banks and the kinds that a client mostly uses.
+pub struct Habits {
+    busy: Vec<u64>,
+    taste: usize,
+}
+
+impl Habits {
+    pub fn any(rng: &mut Rng) -> Habits {
+        let taste = rng.below(TASTES.len() as u64) as usize;
+        Habits::of_taste(rng, taste)
+    }
+
+    fn of_taste(rng: &mut Rng, taste: usize) -> Habits {
+        let mut busy = Vec::new();
+        for _ in 0..rng.between(1, 3) {
+            let bank = rng.below(16);
+            busy.push(bank);
+            if rng.chance(60) {
+                // Its neighbour in the group.
+                busy.push(bank ^ 1);
+            }
+        }
+        Habits { busy, taste }
+    }
+
+    pub fn kind(&self, rng: &mut Rng) -> u64 {
+        rng.weighed(&TASTES[self.taste])
+    }
+
+    pub fn bank(&self, rng: &mut Rng, kind: u64) -> u64 {
+        match kind {
+            PREAB | REFAB => 0,
+            _ if rng.chance(15) => rng.below(16),
+            _ => rng.pick(&self.busy),
+        }
+    }
+}
+
 struct Player {
     rng: Rng,
     console: Console,
     mood: Mood,
     lines: Vec<Line>,
     most: usize,
-    /// The banks that the client mostly uses.
-    busy: Vec<u64>,
-    taste: usize,
+    habits: Habits,
     /// How often each gap was named, so that seldom ones are sought.
     named: [u64; 21],
-    /// Without them the same numbers are drawn as if there were none.
-    gaps_lines: bool,
+    forms: Forms,
 }
 
 impl Player {
@@ -330,10 +396,12 @@ impl Player {
             mood,
             lines: Vec::new(),
             most,
-            busy: vec![0, 1, 2],
-            taste: 0,
+            habits: Habits {
+                busy: vec![0, 1, 2],
+                taste: 0,
+            },
             named: [0; 21],
-            gaps_lines: GAPS_LINES,
+            forms: FORMS,
         }
     }
 
@@ -383,7 +451,7 @@ impl Player {
 
     fn note(&mut self, answer: &str) {
         let words: Vec<&str> = answer.split(' ').collect();
-        if let ["offer" | "ask", "0" | "7", _, gap] = words.as_slice() {
+        if let ["offer" | "ask", "0" | "7", _, gap] | ["burst", _, "7", _, gap] = words.as_slice() {
             if let Ok(gap) = gap.parse::<usize>() {
                 self.named[gap] += 1;
             }
@@ -515,37 +583,20 @@ impl Player {
 
     /// New habits: banks, kinds.
     fn new_habits(&mut self) {
-        self.taste = match self.mood {
-            Mood::FourActivates => 2,
-            _ => self.rng.below(TASTES.len() as u64) as usize,
+        self.habits = match self.mood {
+            Mood::FourActivates => Habits::of_taste(&mut self.rng, 2),
+            _ => Habits::any(&mut self.rng),
         };
-        self.busy.clear();
-        for _ in 0..self.rng.between(1, 3) {
-            let bank = self.rng.below(16);
-            self.busy.push(bank);
-            if self.rng.chance(60) {
-                // Its neighbour in the group.
-                self.busy.push(bank ^ 1);
-            }
-        }
     }
 
     fn any_command(&mut self) -> (u64, u64, u64) {
-        let kind = self.rng.weighed(&TASTES[self.taste]);
+        let kind = self.habits.kind(&mut self.rng);
         let rank = match self.ranks() {
             1 => 0,
             _ if self.mood == Mood::TwoRanks => self.rng.below(2),
             _ => u64::from(self.rng.chance(30)),
         };
-        let bank = match kind {
-            PREAB | REFAB => 0,
-            _ if self.rng.chance(15) => self.rng.below(16),
-            _ => {
-                let busy = self.busy.clone();
-                self.rng.pick(&busy)
-            }
-        };
-        (kind, rank, bank)
+        (kind, rank, self.habits.bank(&mut self.rng, kind))
     }
 
     /// A command, often the one of several whose gaps tie or are seldom named.
@@ -624,7 +675,7 @@ impl Player {
         };
         let answer = if self.rng.chance(4) {
             let length = self.rng.pick(&[LONGEST_LINE, LONGEST_LINE + 1]);
-            let line = gaps_line_of_length(&sheet, length);
+            let line = padded(&sheet.to_string(), length);
             self.send(format!("{line}\n").into_bytes())
         } else {
             self.say(&sheet.to_string())
@@ -666,7 +717,7 @@ impl Player {
             Mood::Deep => 30,
             _ => 3,
         };
-        if self.gaps_lines && self.rng.chance(percent) {
+        if self.forms.gaps && self.rng.chance(percent) {
             self.gaps_and_open();
         }
     }
@@ -814,7 +865,7 @@ impl Player {
             let kind = if self.rng.chance(40) {
                 taken.kind
             } else {
-                self.rng.weighed(&TASTES[self.taste])
+                self.habits.kind(&mut self.rng)
             };
             let bank = match kind {
                 PREAB | REFAB => 0,
@@ -1291,8 +1342,11 @@ impl Player {
 
     /// A line of good form that does no lasting harm if it is taken as such.
     fn some_line(&mut self) -> String {
-        if self.gaps_lines && self.rng.chance(15) {
+        if self.forms.gaps && self.rng.chance(15) {
             return any_sheet(&mut self.rng).to_string();
+        }
+        if self.forms.bursts && self.rng.chance(15) {
+            return self.some_burst_line();
         }
         let (kind, rank, bank) = self.any_command();
         let word = self.kind_word(kind);
@@ -1362,9 +1416,13 @@ impl Player {
     }
 
     fn malformed(&mut self) {
-        if self.gaps_lines && self.rng.chance(12) {
+        if self.forms.gaps && self.rng.chance(12) {
             let line = malformed_gaps_line(&mut self.rng);
             self.say(&line);
+            return;
+        }
+        if self.forms.bursts && self.rng.chance(12) {
+            self.malformed_burst();
             return;
         }
         let line = self.some_line();
@@ -1435,10 +1493,7 @@ impl Player {
                 words[0] = other.into_bytes();
             }
             9 => {
-                let wrong = self.rng.pick(&[
-                    "act", "Act", "rd", "wr", "Prepb", "PREpb", "preab", "refab", "REF", "PRE",
-                    "ACTT", "AC", "RDA", "RD1", "REFpb", "PREPB,", "A",
-                ]);
+                let wrong = self.rng.pick(&NO_KINDS);
                 let text = if self.rng.chance(50) {
                     format!("ask {wrong} 0 0")
                 } else {
@@ -1813,9 +1868,10 @@ impl Player {
 
     /// The calls before any session, in some order.
     fn beginning(&mut self) {
-        if self.gaps_lines && self.rng.chance(40) {
+        if self.forms.gaps && self.rng.chance(40) {
             self.ask_for_gaps();
         }
+        self.bursts_without_a_session();
         for _ in 0..self.rng.below(6) {
             match self.rng.below(9) {
                 0 => self.offer(),
@@ -1840,8 +1896,11 @@ impl Player {
 
     /// Mostly a line without a newline, which is answered and not played: also one that would be accepted, or ask nothing.
     fn last_line(&mut self) -> Vec<u8> {
-        if self.gaps_lines && self.rng.chance(6) {
+        if self.forms.gaps && self.rng.chance(6) {
             return any_sheet(&mut self.rng).to_string().into_bytes();
+        }
+        if self.forms.bursts && self.rng.chance(10) {
+            return self.some_burst_line().into_bytes();
         }
         let (kind, rank, bank) = self.command();
         let (earliest, _) = self.earliest((kind, rank, bank));
@@ -1898,6 +1957,7 @@ impl Player {
                 self.say(&format!("lend {}", u64::MAX));
             }
             self.gaps_now_and_then();
+            self.bursts_now_and_then();
             self.act();
         }
         self.end();
@@ -2105,6 +2165,15 @@ mod tests {
     use crate::sheet_calls::wrong;
     use std::collections::BTreeMap;
 
+    const NO_FORMS: Forms = Forms {
+        gaps: false,
+        bursts: false,
+    };
+    const WITH_GAPS: Forms = Forms {
+        gaps: true,
+        ..NO_FORMS
+    };
+
     /// The sheet of a line that was answered.
     fn sheet_sent(line: &Line) -> Sheet {
         let text = String::from_utf8(line.sent.clone()).unwrap();
@@ -2156,7 +2225,7 @@ mod tests {
     fn scripts_reach_every_answer_to_gaps() {
         let mut seen: BTreeMap<String, u64> = BTreeMap::new();
         for seed in 0..104 {
-            for key in gaps_seen(&script_with(seed, 500, true)) {
+            for key in gaps_seen(&script_with(seed, 500, WITH_GAPS)) {
                 *seen.entry(key).or_default() += 1;
             }
         }
@@ -2181,7 +2250,7 @@ mod tests {
     #[test]
     fn scripts_without_gaps_lines_have_none() {
         for seed in 0..26 {
-            assert!(gaps_seen(&script_with(seed, 200, false)).is_empty());
+            assert!(gaps_seen(&script_with(seed, 200, NO_FORMS)).is_empty());
         }
     }
 
@@ -2190,7 +2259,7 @@ mod tests {
     fn scripts_tell_wrong_gaps() {
         let mut sent = Vec::new();
         for seed in 0..104 {
-            let lines = script_with(seed, 500, true).lines;
+            let lines = script_with(seed, 500, WITH_GAPS).lines;
             let asked = lines
                 .into_iter()
                 .filter(|l| answer_of(l).starts_with("gaps "));
@@ -2325,12 +2394,7 @@ mod tests {
                         state.open(&mut lent, (given[0], given[1], given[2]), 0, [0; 20])
                     }
                     2 => {
-                        let command = Command {
-                            kind: u64::from(record[1]),
-                            rank: u64::from(record[2]),
-                            bank: u64::from(record[3]),
-                            cycle: u64::from_le_bytes(record[8..16].try_into().unwrap()),
-                        };
+                        let command = Command::in_record(record);
                         state.offer(&mut lent, command).number
                     }
                     _ => state.back(&mut lent),

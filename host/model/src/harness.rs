@@ -201,11 +201,20 @@ pub struct Ran {
     is_tool: bool,
 }
 
+/// Where document 01's number stands among an answer's words; none if it has no number. A cycle and a gap stand behind it.
+pub fn number_at(words: &[&str]) -> Option<usize> {
+    match words[0] {
+        "open" | "offer" | "ask" | "back" | "status" | "restore" | "gaps" => Some(1),
+        // How many were accepted comes first.
+        "burst" => Some(2),
+        _ => None,
+    }
+}
+
 /// Whether an answer says that something was refused or malformed.
 fn is_refused(answer: &str) -> bool {
     let words: Vec<&str> = answer.split(' ').collect();
-    let numbered = ["open", "offer", "ask", "back", "status", "restore", "gaps"];
-    answer == "?" || (numbered.contains(&words[0]) && words[1] != "0")
+    answer == "?" || number_at(&words).is_some_and(|at| words[at] != "0")
 }
 
 /// The exit number that the tool owes for what it wrote, where nothing went wrong.

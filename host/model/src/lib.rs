@@ -1,6 +1,7 @@
-//! An independent program for document 01, request 2026-01 and the bench console, held against the product from outside: a naive model, the listing,
+//! An independent program for document 01, requests 2026-01 and 2026-02 and the bench console, held against the product from outside: a naive model, the listing,
 //! the console over the model, a maker of scripts, and what runs the programs.
 
+pub mod burst_calls;
 pub mod console;
 pub mod disk;
 pub mod file;
@@ -8,5 +9,6 @@ pub mod generate;
 pub mod harness;
 pub mod listing;
 pub mod model;
+pub mod order;
 pub mod sheet;
 pub mod sheet_calls;

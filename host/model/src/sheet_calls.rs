@@ -206,16 +206,8 @@ pub fn sheet_of(rng: &mut Rng, gaps: [u16; 20]) -> Sheet {
     Sheet { tck, times }
 }
 
-/// The sheet's line with zeros before its last time, so that it has so many bytes.
-pub fn gaps_line_of_length(sheet: &Sheet, length: usize) -> String {
-    let line = sheet.to_string();
-    let (front, last) = line.rsplit_once(' ').unwrap_or((&line, ""));
-    let width = length.saturating_sub(front.len() + 1);
-    format!("{front} {last:0>width$}")
-}
-
 /// Words that are no number of 64 bits.
-const NO_NUMBERS: [&str; 14] = [
+pub const NO_NUMBERS: [&str; 14] = [
     "-1",
     "+1",
     "1.0",
@@ -493,7 +485,7 @@ pub mod wrong {
 mod tests {
     use super::*;
     use crate::console::Console;
-    use crate::generate::SETTINGS_A;
+    use crate::generate::{padded, SETTINGS_A};
 
     #[test]
     fn a_right_program_is_found_right() {
@@ -596,11 +588,11 @@ mod tests {
         let mut console = Console::new();
         for _ in 0..100 {
             let sheet = any_sheet(&mut rng);
-            let line = gaps_line_of_length(&sheet, 4_096);
+            let line = padded(&sheet.to_string(), 4_096);
             assert_eq!(line.len(), 4_096);
             let answer = console.line(line.as_bytes(), true);
             assert_eq!(answer, Some(sheet.answer().to_string()));
-            assert_eq!(gaps_line_of_length(&sheet, 0), sheet.to_string());
+            assert_eq!(padded(&sheet.to_string(), 0), sheet.to_string());
         }
     }
 }

@@ -1,11 +1,15 @@
 //! `bench FILE` held against the model: the order of its calls, failed writes
 //! and syncs, kills, cut files, a full disk.
 
-use rossinhiu_model::file::{answered, printed, puts, sent, steps, FileConsole, Start, Step};
+use rossinhiu_model::disk::new_bytes;
+use rossinhiu_model::file::{
+    answered, printed, puts, sent, step_at, steps, FileConsole, Played, Start, Step,
+};
 use rossinhiu_model::generate::{script, Rng, MOODS};
 use rossinhiu_model::harness::*;
 use rossinhiu_model::listing::list;
 use rossinhiu_model::model::RECORD;
+use rossinhiu_model::order::{broken_off, touches, Touch};
 use std::fs;
 use std::io::{BufRead, BufReader, Read, Write};
 use std::os::unix::process::{CommandExt, ExitStatusExt};
@@ -25,12 +29,6 @@ rossinhiu_model::of_both! {
     a_hundred_kills,
     every_cut_restores,
     a_full_disk,
-}
-
-/// The steps before the one that writes the n-th record, counted from 1.
-fn before_put(steps: &[Step], n: usize) -> usize {
-    let places = steps.iter().enumerate().filter(|(_, s)| s.put.is_some());
-    places.map(|(i, _)| i).nth(n - 1).unwrap()
 }
 
 /// Bytes of a record that was cut off.
@@ -110,110 +108,70 @@ fn each_start_goes_on(programs: &Programs) {
 
 // The order of calls.
 
-/// Holds a log to the order: before each read all answers to whole lines are
-/// out; before each answer its record was written whole and made durable.
-fn assert_order(calls: &[Call], path: &Path, steps: &[Step]) {
-    let name = path.to_str().unwrap();
-    let mut file = -1;
-    let (mut taken, mut out, mut written, mut durable) = (0, Vec::new(), 0, 0);
-    let puts = puts(steps);
-    let input = sent(steps);
-    for call in calls {
-        let about = format!("{call:?}");
-        if call.name == "open" && call.path == name && call.result >= 0 {
-            file = call.fd;
-        }
-        match call.name.as_str() {
-            "read" if call.fd == 0 => {
-                let whole = input[..taken].iter().filter(|b| **b == b'\n').count();
-                assert!(out == printed(&steps[..whole]).into_bytes(), "{about}");
-                taken += call.result as usize;
-            }
-            "pwrite" => {
-                let put = puts[written];
-                assert_eq!((call.fd, call.offset), (file, put.at as i64), "{about}");
-                assert_eq!((call.count, &call.bytes), (64, &put.bytes), "{about}");
-                written += 1;
-            }
-            "fdatasync" => {
-                assert_eq!((call.fd, call.result), (file, 0), "{about}");
-                durable = written;
-            }
-            "write" if call.fd == 1 => {
-                out.extend_from_slice(&call.bytes);
-                let text = String::from_utf8_lossy(&out);
-                let accepted = |l: &&str| {
-                    let words: Vec<&str> = l.split(' ').collect();
-                    ["open", "offer", "back"].contains(&words[0]) && words[1] == "0"
-                };
-                let answered = text.lines().filter(accepted).count();
-                assert!(answered <= durable, "answered before durable: {about}");
-            }
-            "write" => assert!(call.fd != file, "{about}"),
-            "ftruncate" => panic!("{about}"),
-            _ => {}
-        }
+/// Plays the steps over a file with these bytes, or where there is none, and holds the calls to the order: before each read all answers to whole lines are
+/// out; before each answer its records were written whole and made durable, sector after sector. Its writes and syncs.
+fn whole_run(bench: &Program, folder: &Folder, steps: &[Step], base: Option<&[u8]>) -> Vec<Touch> {
+    let (path, log) = (folder.at("whole"), folder.at("whole.log"));
+    for left in [&path, &log] {
+        let _ = fs::remove_file(left);
     }
-    assert_eq!((written, durable), (puts.len(), puts.len()));
-    assert!(out == printed(steps).into_bytes());
+    if let Some(bytes) = base {
+        fs::write(&path, bytes).unwrap();
+    }
+    let ran = run(&mut shimmed(bench, &[&path], &log, ""), &sent(steps));
+    ran.ended_by_itself();
+    touches(&calls(&log), &path, steps).unwrap_or_else(|fault| panic!("{fault}"))
 }
 
 fn an_answer_comes_after_its_record_is_durable(programs: &Programs) {
     let _turn = turn();
     let (bench, folder) = (programs.bench(), Folder::new());
     let mut rng = Rng::new(seed() + 2);
-    let path = folder.at("journal");
-    for round in 0..8 {
-        let log = folder.at(&format!("log{round}"));
-        let file = fs::read(&path).unwrap_or_default();
-        let mut model = FileConsole::over(&file);
+    let mut file: Option<Vec<u8>> = None;
+    for _ in 0..8 {
+        let mut model = FileConsole::over(file.as_deref().unwrap_or_default());
         let steps = steps(&mut rng, &mut model, 150);
-        let ran = run(&mut shimmed(&bench, &[&path], &log, ""), &sent(&steps));
-        ran.ended_by_itself();
-        assert_order(&calls(&log), &path, &steps);
-        assert_file(&path, &model.file, "under the shim");
+        whole_run(&bench, &folder, &steps, file.as_deref());
+        assert_file(&folder.at("whole"), &model.file, "under the shim");
         // Loose bytes for the next round.
         let cut = rng.below(64);
-        fs::write(&path, &model.file[..model.file.len() - cut as usize]).unwrap();
+        file = Some(model.file[..model.file.len() - cut as usize].to_vec());
     }
 }
 
 // Failed calls.
 
-/// A run in which one call goes wrong: what was printed before it, what is said,
+/// A run in which one call goes wrong, so many of its bytes kept: what was printed before it, what is said,
 /// what the file holds, and how the next start goes on.
 fn assert_broken(
     (bench, folder): (&Program, &Folder),
-    (steps, base): (&[Step], &[u8]),
-    (plan, n, kept): (&str, usize, usize),
-    killed: bool,
+    played: &Played,
+    touch: &Touch,
+    (way, kept): (&str, usize),
 ) {
     let (path, log) = (folder.at("broken"), folder.at("broken.log"));
-    fs::write(&path, base).unwrap();
+    let plan = format!("{} {} {way}", touch.name, touch.turn);
+    fs::write(&path, &played.before).unwrap();
     let _ = fs::remove_file(&log);
-    let ran = run(&mut shimmed(bench, &[&path], &log, plan), &sent(steps));
-    let place = before_put(steps, n);
-    let expected = printed(&steps[..place]);
-    if killed {
+    let lines = sent(&played.steps);
+    let ran = run(&mut shimmed(bench, &[&path], &log, &plan), &lines);
+    let expected = printed(&played.steps[..touch.step]);
+    if way.starts_with("kill") {
         assert_eq!(ran.status.signal(), Some(9), "{plan}");
         assert!(expected.starts_with(&ran.text()), "{plan}");
     } else {
         ran.ended_by_itself();
         assert_eq!(ran.text(), expected, "{plan}");
-        let advice = match plan.starts_with("pwrite") {
-            true => "room",
-            false => "start with the copy",
+        let advice = match touch.name {
+            "pwrite" => "room",
+            _ => "start with the copy",
         };
-        ran.told(&[advice], plan);
+        ran.told(&[advice], &plan);
     }
-    let mut file = base.to_vec();
-    for put in &puts(steps)[..n - 1] {
-        put.on(&mut file, RECORD);
-    }
-    puts(steps)[n - 1].on(&mut file, kept);
-    assert_file(&path, &file, plan);
-    let mut rng = Rng::new(seed() + n as u64);
-    play_on(bench, &path, &mut rng, 15, plan);
+    let file = broken_off(&played.before, &played.after, touch.at + kept);
+    assert_file(&path, &file, &plan);
+    let mut rng = Rng::new(seed() + touch.turn as u64);
+    play_on(bench, &path, &mut rng, 15, &plan);
 }
 
 fn a_failed_write_has_no_answer(programs: &Programs) {
@@ -221,25 +179,22 @@ fn a_failed_write_has_no_answer(programs: &Programs) {
     let (bench, folder) = (programs.bench(), Folder::new());
     let mut rng = Rng::new(seed() + 3);
     for count in [0, 40] {
-        let mut model = FileConsole::over(&loose(count));
-        let base = model.file.clone();
-        let steps = steps(&mut rng, &mut model, 120);
-        let most = puts(&steps).len().min(24);
-        assert!(most > 10);
-        for n in 1..=most {
+        let played = Played::new(&mut rng, &loose(count), 120);
+        let touches = whole_run(&bench, &folder, &played.steps, Some(&played.before));
+        assert!(touches.len() > 20);
+        // Each write, and the sync behind it.
+        for touch in touches.iter().take(48) {
             let about = (&bench, &folder);
-            let given = (steps.as_slice(), base.as_slice());
-            for kept in [0, 1, rng.between(2, 62) as usize, 63] {
-                let plan = format!("pwrite {n} short {kept}");
-                assert_broken(about, given, (&plan, n, kept), false);
+            assert_broken(about, &played, touch, ("errno 5", 0));
+            if touch.name != "pwrite" {
+                continue;
             }
-            for number in [28, 5] {
-                let plan = format!("pwrite {n} errno {number}");
-                assert_broken(about, given, (&plan, n, 0), false);
+            assert_broken(about, &played, touch, ("errno 28", 0));
+            let last = touch.count - 1;
+            for kept in [0, 1, rng.between(2, last as u64 - 1) as usize, last] {
+                let way = format!("short {kept}");
+                assert_broken(about, &played, touch, (&way, kept));
             }
-            // The first is the start's.
-            let plan = format!("fdatasync {} errno 5", n + 1);
-            assert_broken(about, given, (&plan, n, RECORD), false);
         }
     }
 }
@@ -249,18 +204,17 @@ fn a_kill_at_each_call(programs: &Programs) {
     let _turn = turn();
     let (bench, folder) = (programs.bench(), Folder::new());
     let mut rng = Rng::new(seed() + 4);
-    let mut model = FileConsole::over(&loose(13));
-    let base = model.file.clone();
-    let steps = steps(&mut rng, &mut model, 100);
-    for n in 1..=puts(&steps).len().min(16) {
+    let played = Played::new(&mut rng, &loose(13), 100);
+    let touches = whole_run(&bench, &folder, &played.steps, Some(&played.before));
+    for touch in touches.iter().take(32) {
         let about = (&bench, &folder);
-        let given = (steps.as_slice(), base.as_slice());
-        for kept in [0, rng.between(1, 63) as usize, RECORD] {
-            let plan = format!("pwrite {n} kill {kept}");
-            assert_broken(about, given, (&plan, n, kept), true);
+        assert_broken(about, &played, touch, ("kill 0", 0));
+        if touch.count > 0 {
+            for kept in [rng.between(1, touch.count as u64 - 1) as usize, touch.count] {
+                let way = format!("kill {kept}");
+                assert_broken(about, &played, touch, (&way, kept));
+            }
         }
-        let plan = format!("fdatasync {} kill 0", n + 1);
-        assert_broken(about, given, (&plan, n, RECORD), true);
     }
 }
 
@@ -327,49 +281,35 @@ fn kill_at(
     String::from_utf8(answers.join().unwrap()).expect("answers are plain text")
 }
 
-/// The number of records in the file, whose bytes are those of the model after
-/// so many records, or a part of the next one behind them.
-fn records_kept(base: &[u8], steps: &[Step], got: &[u8], about: &str) -> usize {
-    let mut file = base.to_vec();
-    if got == file {
-        return 0;
-    }
-    for (i, put) in puts(steps).into_iter().enumerate() {
-        for count in 1..RECORD {
-            let mut torn = file.clone();
-            put.on(&mut torn, count);
-            if got == torn {
-                return i;
-            }
-        }
-        put.on(&mut file, RECORD);
-        if got == file {
-            return i + 1;
-        }
-    }
-    panic!("{about}: {} bytes that no order of calls leaves", got.len());
+/// The number of records in the file, whose bytes are those of the model after so many bytes of
+/// its records, and nothing is behind them but what was there before.
+fn records_kept(before: &[u8], after: &[u8], left: &[u8], about: &str) -> usize {
+    let new = new_bytes(before, after, left).unwrap_or_else(|fault| panic!("{about}: {fault}"));
+    let length = new.max(before.len());
+    assert_eq!(left.len(), length, "{about}: no order of calls leaves it");
+    new / RECORD
 }
 
 /// One run, killed somewhere: its records that were answered, that are in the file, and that were to come in all.
 fn killed(bench: &Program, path: &Path, rng: &mut Rng, about: &str) -> [usize; 3] {
     let base = fs::read(path).unwrap();
-    let mut model = FileConsole::over(&base);
     let count = rng.between(30, 300) as usize;
-    let steps = steps(rng, &mut model, count);
-    let puts = puts(&steps);
+    let played = Played::new(rng, &base, count);
+    let (steps, restored) = (&played.steps, base.len() / RECORD);
+    let puts = puts(steps);
     let length = match rng.below(puts.len() as u64 + 1) as usize {
         0 => 0,
         n => puts[n - 1].at + RECORD,
     };
     let wait = Duration::from_micros(rng.below(300));
-    let (lines, size) = (sent(&steps), rng.pick(&[30, 100, 500, 4000]));
+    let (lines, size) = (sent(steps), rng.pick(&[30, 100, 500, 4000]));
     let pieces = lines.chunks(size).map(<[u8]>::to_vec).collect();
     let sending = (pieces, rng.chance(50));
     let out = kill_at((bench, path), sending, (length as u64, wait));
-    assert!(printed(&steps).starts_with(&out), "{about}: other answers");
-    let file = fs::read(path).unwrap();
-    let kept = records_kept(&base, &steps, &file, about);
-    [answered(&steps, &out), kept, puts.len()]
+    assert!(printed(steps).starts_with(&out), "{about}: other answers");
+    let kept = records_kept(&base, &played.after, &fs::read(path).unwrap(), about);
+    let all = puts.iter().map(|put| put.records()).sum();
+    [answered(steps, &out), kept - restored, all]
 }
 
 fn a_hundred_kills(programs: &Programs) {
@@ -447,8 +387,7 @@ fn a_full_disk(programs: &Programs) {
         fs::write(&path, b"").unwrap();
         let mut model = FileConsole::over(b"");
         let steps = steps(&mut rng, &mut model, 80);
-        let whole = limit / RECORD;
-        assert!(puts(&steps).len() > whole);
+        assert!(model.file.len() > limit);
         let mut limited = command(&bench, &[&path]);
         // SAFETY: both calls may stand between fork and exec, and touch no memory.
         unsafe {
@@ -462,15 +401,10 @@ fn a_full_disk(programs: &Programs) {
         }
         let ran = run(&mut limited, &sent(&steps));
         ran.ended_by_itself();
-        let place = before_put(&steps, whole + 1);
+        let place = step_at(&steps, limit).unwrap();
         assert_eq!(ran.text(), printed(&steps[..place]));
         ran.told(&["room"], "a full disk");
-        let mut file = Vec::new();
-        for put in &puts(&steps)[..whole] {
-            put.on(&mut file, RECORD);
-        }
-        puts(&steps)[whole].on(&mut file, limit % RECORD);
-        assert_file(&path, &file, "a full disk");
+        assert_file(&path, &model.file[..limit], "a full disk");
         play_on(&bench, &path, &mut rng, 30, "room again");
     }
 }

@@ -1,12 +1,15 @@
 //! Power cuts: `bench FILE` is killed at any of its calls, and a model of the disk
 //! forgets what was not durable. What somebody was told of, by an answer 0 or by
-//! what a restore or a status showed, is there at the next start, byte for byte.
+//! what a restore or a status showed, is there at the next start, byte for byte, and
+//! no record stands behind a hole.
 //!
 //! ROSSINHIU_ROUNDS is the number of starts, 1,000 where it is not said.
 
-use rossinhiu_model::disk::{Disk, Told};
-use rossinhiu_model::file::{answered, printed, puts, sent, steps, FileConsole, Start, Step};
-use rossinhiu_model::generate::Rng;
+use rossinhiu_model::disk::{new_bytes, Disk, Told, SECTOR};
+use rossinhiu_model::file::{
+    answered, printed, puts, sent, step_at, steps, FileConsole, Played, Start, Step,
+};
+use rossinhiu_model::generate::{Rng, BURST_LINES};
 use rossinhiu_model::harness::*;
 use rossinhiu_model::model::RECORD;
 use std::fs;
@@ -28,6 +31,8 @@ struct Seen {
     /// Starts that showed more than anybody was told before.
     ahead: usize,
     refused: usize,
+    /// Bursts that were broken off between two of their records.
+    parted: usize,
 }
 
 /// One journal, on one disk.
@@ -77,16 +82,32 @@ impl<'a> Lab<'a> {
     /// One start, to its end or to a kill; then a power cut, or none.
     fn round(&mut self, about: &str) {
         let before = self.disk.shown().unwrap_or_default().to_vec();
-        match FileConsole::start(&before) {
-            Start::Open(_, model) => self.play(&before, model, about),
-            Start::Refused(line, at) => self.refuse(&before, &line, at, about),
+        let played = match FileConsole::start(&before) {
+            Start::Open(_, model) => self.play(before, model, about),
+            Start::Refused(line, at) => {
+                self.refuse(&before, &line, at, about);
+                None
+            }
             _ => panic!("{about}: no journal is left"),
-        }
+        };
+        self.assert_no_hole(played.as_ref(), about);
         if self.rng.chance(50) {
             self.cut_power();
+            self.assert_no_hole(played.as_ref(), about);
         }
         // This is what the next start finds.
         self.told.assert_kept(&self.disk, about);
+    }
+
+    /// The file holds a front of what the run was to write, and nothing of it behind that.
+    fn assert_no_hole(&mut self, played: Option<&Played>, about: &str) {
+        let Some(played) = played else { return };
+        let left = self.disk.shown().unwrap_or_default();
+        let new = new_bytes(&played.before, &played.after, left);
+        let records = new.unwrap_or_else(|fault| panic!("{about}: {fault}")) / RECORD;
+        let end = RECORD * records;
+        let next = step_at(&played.steps, end).and_then(|step| played.steps[step].put.as_ref());
+        self.seen.parted += usize::from(next.is_some_and(|put| put.at < end));
     }
 
     /// Lines for a start; often it is asked first what is there, and often nothing is written at all.
@@ -109,10 +130,13 @@ impl<'a> Lab<'a> {
         let rng = &mut self.rng;
         let reads = rng.below(6);
         // The start alone makes up to ten calls.
-        let calls = 10 + 2 * puts(trace).len() as u64 + 2 * reads;
+        let writes = puts(trace).into_iter().map(|put| put.parts().len() as u64);
+        let calls = 10 + 2 * writes.sum::<u64>() + 2 * reads;
         let ways = [(1, 8), (1, 8), (6, calls), (6, calls), (6, 2 * calls)];
         let (least, most) = rng.pick(&ways);
-        let (last, within) = (rng.between(least, most), rng.between(1, 63));
+        // Within a record, or within those of a burst that are written together.
+        let longest = if BURST_LINES { SECTOR } else { RECORD };
+        let (last, within) = (rng.between(least, most), rng.between(1, longest as u64 - 1));
         let mut plan = format!("any {last} kill {}", rng.pick(&[0, within, 64, 4_096]));
         for n in 1..=reads {
             plan += &format!(";read {n} short {}", rng.between(1, 120));
@@ -145,8 +169,10 @@ impl<'a> Lab<'a> {
         (ran, ended)
     }
 
-    /// A start that restores. Its line tells of all that the file holds, so that a status tells of nothing more.
-    fn play(&mut self, before: &[u8], mut model: FileConsole, about: &str) {
+    /// A start that restores. Its line tells of all that the file holds, so that a status tells of nothing more. Gives what was
+    /// played, if all that it found is durable.
+    fn play(&mut self, before: Vec<u8>, mut model: FileConsole, about: &str) -> Option<Played> {
+        let was_durable = !self.disk.is_pending();
         let trace = self.trace(&mut model);
         let (ran, ended) = self.run(&trace, &printed(&trace), about);
         if !ran.out.is_empty() {
@@ -159,6 +185,11 @@ impl<'a> Lab<'a> {
             assert_eq!(ran.said(), "", "{about}");
             assert_file(&self.path, &model.file, about);
         }
+        (was_durable || !ran.out.is_empty()).then_some(Played {
+            steps: trace,
+            before,
+            after: model.file,
+        })
     }
 
     /// A start that is refused: nobody was told of the bad record, so it is cut off, as the program says.
@@ -208,7 +239,8 @@ fn nothing_told_is_lost(programs: &Programs) {
     if played >= 1_000 {
         let Seen { kills, pending, .. } = seen;
         let enough = kills >= 300 && pending >= 60 && seen.changed >= 30;
-        let rare = [seen.gone, seen.ahead, seen.refused];
+        let mut rare = vec![seen.gone, seen.ahead, seen.refused];
+        rare.extend(BURST_LINES.then_some(seen.parted));
         assert!(enough && rare.iter().all(|n| *n >= 3), "{seen:?}");
     }
 }

@@ -263,17 +263,19 @@ impl Sum {
         self.lines += 1;
         let Some(answer) = answer else { return };
         let words: Vec<&str> = answer.split(' ').collect();
-        let accepts = ["open", "offer", "back"].contains(&words[0]);
-        let judges = accepts || ["ask", "status", "restore", "gaps"].contains(&words[0]);
-        let number = if judges { words[1].parse().unwrap() } else { 0 };
+        // A burst counts as its line does: accepted whole, or refused.
+        let accepts = ["open", "offer", "back", "burst"].contains(&words[0]);
+        let place = number_at(&words);
+        let number = place.map_or(0, |at| words[at].parse().unwrap());
         match (answer, number) {
             ("?", _) => self.malformed += 1,
             (_, 0) if accepts => self.accepted += 1,
             (_, 0) => self.told += 1,
             (_, number) => *self.refused.entry(number).or_default() += 1,
         }
-        if number == 7 {
-            *self.early.entry(words[3].parse().unwrap()).or_default() += 1;
+        if let Some(at) = place.filter(|_| number == 7) {
+            let gap = words[at + 2].parse().unwrap();
+            *self.early.entry(gap).or_default() += 1;
         }
         if answer == "?" || number != 0 {
             self.text += &format!("{} {answer}\n", self.lines);

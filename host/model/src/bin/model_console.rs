@@ -2,7 +2,7 @@
 //! argument the journal is kept in that file.
 
 use rossinhiu_model::console::{Console, JOURNAL};
-use rossinhiu_model::file::{FileConsole, Start};
+use rossinhiu_model::file::{FileConsole, Put, Start};
 use rossinhiu_model::model::RECORD;
 use std::fs::{File, OpenOptions};
 use std::io::{self, BufRead, ErrorKind, Write};
@@ -90,9 +90,10 @@ fn play_lines(file: &File, mut console: FileConsole) -> io::Result<()> {
     while let Some(line) = next_line(&mut input)? {
         let front = line.strip_suffix(b"\n");
         let (answer, put) = console.line(front.unwrap_or(&line), front.is_some());
-        if let Some(put) = put {
-            let written = file.write_at(&put.bytes, put.at as u64);
-            if told("a record can't be written: make room", written)? != RECORD {
+        // A sector is begun when the one before it is durable, so that no power cut leaves a hole.
+        for part in put.iter().flat_map(Put::parts) {
+            let written = file.write_at(&part.bytes, part.at as u64);
+            if told("a record can't be written: make room", written)? != part.bytes.len() {
                 eprintln!("a record was written in part: make room");
                 return Ok(());
             }

@@ -1,0 +1,1085 @@
+//! Lists of commands at the edges of request 2026-02, for the console's lines and for single calls, and
+//! what holds another program's calls against the model.
+
+use crate::console::LONGEST_LINE;
+use crate::generate::{Habits, Rng, NO_KINDS, SETTINGS_A, TOO_LARGE};
+use crate::model::{
+    bytes_of, Answer, BurstAnswer, Command, Record, State, Status, ACT, LAST_CYCLE, NAMES, PREAB,
+    RECORD, REFAB,
+};
+use crate::sheet_calls::NO_NUMBERS;
+use std::fmt::{Debug, Display};
+
+/// The largest kind, rank and bank that a piece of bytes can say.
+pub const WIDEST_IN_BYTES: u64 = 255;
+
+/// A bank that a kind may name, below so many.
+fn any_bank(rng: &mut Rng, kind: u64, banks: u64) -> u64 {
+    match kind {
+        PREAB | REFAB => 0,
+        _ => rng.below(banks),
+    }
+}
+
+/// A list that is drawn, and the state as its commands leave it if none is refused.
+struct Drawing<'a> {
+    list: Vec<Command>,
+    played: State,
+    habits: &'a Habits,
+    /// The largest number that a kind, a rank or a bank may have.
+    widest: u64,
+}
+
+impl<'a> Drawing<'a> {
+    fn new(state: &State, habits: &'a Habits, widest: u64) -> Drawing<'a> {
+        Drawing {
+            list: Vec::new(),
+            played: state.clone(),
+            habits,
+            widest,
+        }
+    }
+
+    /// The next command, to be accepted.
+    fn take(&mut self, command: Command) {
+        self.played.records.push(Record::Command(command));
+        self.list.push(command);
+    }
+
+    fn ranks(&self) -> u64 {
+        self.played.session().map_or(1, |s| s.1.ranks)
+    }
+
+    /// No cycle here comes near 64 bits.
+    fn earliest(&self, command: &Command) -> (u64, u64) {
+        let Command {
+            kind, rank, bank, ..
+        } = *command;
+        let (cycle, gap) = self.played.earliest(kind, rank, bank);
+        (cycle as u64, gap)
+    }
+
+    fn last(&self) -> Option<u64> {
+        self.played.survivors().last().map(|s| s.cycle)
+    }
+
+    /// A command of a place that is there, at its earliest cycle.
+    fn earliest_command(&self, rng: &mut Rng) -> Command {
+        let kind = self.habits.kind(rng);
+        let rank = rng.below(self.ranks());
+        let bank = self.habits.bank(rng, kind);
+        let mut command = Command {
+            kind,
+            rank,
+            bank,
+            cycle: 0,
+        };
+        command.cycle = self.earliest(&command).0;
+        command
+    }
+
+    /// Mostly at the earliest cycle, now and then later.
+    fn legal(&self, rng: &mut Rng) -> Command {
+        let mut command = self.earliest_command(rng);
+        command.cycle += match rng.below(60) {
+            0 => rng.below(70_000),
+            1..=4 => 1,
+            5..=8 => rng.below(12),
+            _ => 0,
+        };
+        command
+    }
+
+    /// Behind the last survivor, whatever the gaps ask for.
+    fn careless(&self, rng: &mut Rng) -> Command {
+        let mut command = self.earliest_command(rng);
+        let next = self.last().map_or(0, |last| last + 1);
+        command.cycle = next + rng.below(12);
+        command
+    }
+
+    /// A command that is refused with this number, 2 to 7; with 2 where the state has no place for it.
+    fn refused(&self, rng: &mut Rng, number: u64) -> Command {
+        let command = self.earliest_command(rng);
+        let found = match number {
+            6 => self.not_later(rng, command),
+            7 => self.too_early(rng),
+            _ => None,
+        };
+        found.unwrap_or_else(|| self.spoiled(rng, command, if number > 5 { 2 } else { number }))
+    }
+
+    /// Refused with a number from 2 to 5. Often faults of the lines behind it too, so that their order shows.
+    fn spoiled(&self, rng: &mut Rng, mut command: Command, number: u64) -> Command {
+        let more = rng.chance(30);
+        for line in number..=5 {
+            if line != number && !(more && rng.chance(50)) {
+                continue;
+            }
+            match line {
+                2 => command.kind = self.beyond(rng, &[0, 8, 9, 128, 255], command.kind),
+                3 => command.rank = self.beyond(rng, &[self.ranks(), 2, 3, 255], command.rank),
+                4 if [PREAB, REFAB].contains(&command.kind) => {
+                    command.bank = self.beyond(rng, &[1, 2, 15, 16], 0)
+                }
+                4 => command.bank = self.beyond(rng, &[16, 17, 31, 128, 255], command.bank),
+                _ => {
+                    let above = [LAST_CYCLE + 1, LAST_CYCLE + 2, 1 << 48, 1 << 63, u64::MAX];
+                    command.cycle = rng.pick(&above);
+                }
+            }
+        }
+        command
+    }
+
+    /// One of these, or one that is the right one once it is cut down to 8, 16, 32 or 56 bits.
+    fn beyond(&self, rng: &mut Rng, near: &[u64], right: u64) -> u64 {
+        let high = rng.pick(&[1 << 8, 1 << 16, 1 << 32, 1 << 56, u64::MAX << 8]);
+        let any = rng.pick(near);
+        let chosen = rng.pick(&[any, right + high]);
+        if chosen <= self.widest {
+            chosen
+        } else {
+            any
+        }
+    }
+
+    /// Not later than the last survivor.
+    fn not_later(&self, rng: &mut Rng, mut command: Command) -> Option<Command> {
+        let last = self.last()?;
+        command.cycle = rng.pick(&[last, last, last.saturating_sub(1), 0]);
+        Some(command)
+    }
+
+    /// Before the cycle that a gap asks for, by one or by all that it asks. Often the gap is the window of four activates, where it is met.
+    fn too_early(&self, rng: &mut Rng) -> Option<Command> {
+        let next = self.last()? + 1;
+        let mut found = None;
+        for _ in 0..24 {
+            let mut command = self.earliest_command(rng);
+            let (earliest, gap) = self.earliest(&command);
+            if gap == 0 || next > LAST_CYCLE {
+                continue;
+            }
+            command.cycle = rng
+                .pick(&[earliest - 1, earliest - 1, next])
+                .min(LAST_CYCLE);
+            found = Some(command);
+            if gap == 20 || rng.chance(30) {
+                break;
+            }
+        }
+        found
+    }
+}
+
+/// A refusal that a list meets: the place of its command, and the number, 2 to 7.
+pub type Refusal = (usize, u64);
+
+/// A list of so many commands for a state, each legal behind those before it but for the refusal, if there is to be one; a refusal for which the
+/// state has no place becomes a 2. The list goes on behind it as if that command were not there. No kind, rank or bank is above `widest`.
+pub fn list_for(
+    rng: &mut Rng,
+    (state, habits): (&State, &Habits),
+    length: usize,
+    refusal: Option<Refusal>,
+    widest: u64,
+) -> Vec<Command> {
+    let mut drawing = Drawing::new(state, habits, widest);
+    for place in 0..length {
+        match refusal {
+            Some((at, number)) if at == place => {
+                let command = drawing.refused(rng, number);
+                drawing.list.push(command);
+            }
+            _ => drawing.take(drawing.legal(rng)),
+        }
+    }
+    drawing.list
+}
+
+/// A list of somebody who does not know of gaps: some are too early, wherever that is.
+fn careless_list(rng: &mut Rng, (state, habits): (&State, &Habits), length: usize) -> Vec<Command> {
+    let mut drawing = Drawing::new(state, habits, WIDEST_IN_BYTES);
+    for _ in 0..length {
+        drawing.take(drawing.careless(rng));
+    }
+    drawing.list
+}
+
+/// So many activates of a rank, each at its earliest cycle and on a bank that the window of four holds back, where there is one; at the second place
+/// named, if it is in the list, one cycle before that.
+pub fn activates_for(
+    rng: &mut Rng,
+    state: &State,
+    rank: u64,
+    (length, early): (usize, usize),
+) -> Vec<Command> {
+    let mut played = state.clone();
+    let mut list = Vec::new();
+    for place in 0..length {
+        let first = rng.below(16);
+        let banks = (0..16).map(|bank| (first + bank) % 16);
+        let asked = banks.map(|bank| (bank, played.earliest(ACT, rank, bank)));
+        let asked: Vec<(u64, (u128, u64))> = asked.collect();
+        let held = asked.iter().find(|(_, (_, gap))| *gap == 20);
+        let next = asked.iter().min_by_key(|(_, (cycle, _))| *cycle);
+        let Some((bank, (earliest, gap))) = held.or(next) else {
+            continue;
+        };
+        let mut command = Command {
+            kind: ACT,
+            rank,
+            bank: *bank,
+            cycle: *earliest as u64,
+        };
+        if place == early && *gap != 0 {
+            command.cycle -= 1;
+        } else {
+            played.records.push(Record::Command(command));
+        }
+        list.push(command);
+    }
+    list
+}
+
+/// The first place, the last, the middle or any.
+pub fn any_place(rng: &mut Rng, length: usize) -> usize {
+    let any = rng.below(length.max(1) as u64) as usize;
+    rng.pick(&[0, length / 2, length.saturating_sub(1), any])
+}
+
+fn any_length(rng: &mut Rng, most: usize) -> usize {
+    let length = match rng.below(40) {
+        0 | 1 => 0,
+        2..=5 => 1,
+        6..=19 => rng.between(2, 8),
+        20..=29 => rng.between(9, 40),
+        // Around as many as can be taken back.
+        30..=34 => rng.between(60, 70),
+        35..=38 => rng.between(71, 140),
+        _ => most as u64,
+    };
+    most.min(length as usize)
+}
+
+/// Any list of at most so many commands for a state, no kind, rank or bank above the widest: legal ones at the earliest cycle and later, and often one
+/// that is refused, at any place, with others behind it.
+pub fn any_burst(rng: &mut Rng, state: &State, most: usize, widest: u64) -> Vec<Command> {
+    let habits = Habits::any(rng);
+    let length = any_length(rng, most);
+    match rng.below(10) {
+        0 => return careless_list(rng, (state, &habits), length),
+        1 => {
+            let ranks = state.session().map_or(1, |s| s.1.ranks);
+            let (rank, early) = (rng.below(ranks), rng.between(4, 16) as usize);
+            return activates_for(rng, state, rank, (length.min(16), early));
+        }
+        _ => {}
+    }
+    let refusal = (any_place(rng, length), rng.between(2, 7));
+    let refusal = rng.chance(50).then_some(refusal);
+    list_for(rng, (state, &habits), length, refusal, widest)
+}
+
+/// The list as pieces of 64 bytes. What is not read of a piece is that of a record, or anything.
+pub fn pieces_of(rng: &mut Rng, list: &[Command]) -> Vec<u8> {
+    let mut bytes = Vec::new();
+    for command in list {
+        let mut piece = bytes_of(&Record::Command(*command), rng.below(3) as usize);
+        if rng.chance(70) {
+            for at in (0..1).chain(4..8).chain(16..RECORD) {
+                piece[at] = rng.draw() as u8;
+            }
+        }
+        bytes.extend_from_slice(&piece);
+    }
+    bytes
+}
+
+/// A command's words in a line, a blank before each.
+fn words_of(command: &Command, kind: impl Display) -> String {
+    let Command {
+        rank, bank, cycle, ..
+    } = command;
+    format!(" {kind} {rank} {bank} {cycle}")
+}
+
+/// The console's line, with as many of the commands as it may hold.
+pub fn burst_line(rng: &mut Rng, list: &[Command]) -> String {
+    let mut line = "burst".to_string();
+    for command in list {
+        let name = NAMES.get((command.kind as usize).wrapping_sub(1));
+        let more = match name.filter(|_| rng.chance(50)) {
+            Some(name) => words_of(command, name),
+            None => words_of(command, command.kind),
+        };
+        if line.len() + more.len() > LONGEST_LINE {
+            break;
+        }
+        line += &more;
+    }
+    line
+}
+
+/// The most commands that a line can say: of one digit each, whatever comes of them.
+pub fn fullest_line(rng: &mut Rng) -> String {
+    let mut line = "burst".to_string();
+    let most = rng.below(10);
+    for place in 0..511 {
+        let (kind, rank) = (rng.between(1, 7), rng.below(2));
+        let bank = any_bank(rng, kind, 10);
+        // Rising as far as one digit goes.
+        line += &format!(" {kind} {rank} {bank} {}", most.min(place));
+    }
+    line
+}
+
+/// The line of a list that is nearly of the form. What stands before the fault is as it was.
+pub fn malformed_burst_line(rng: &mut Rng, list: &[Command]) -> String {
+    let mut words: Vec<String> = burst_line(rng, list).split(' ').map(String::from).collect();
+    let some = rng.below(words.len() as u64) as usize;
+    let place = rng.pick(&[some, words.len() - 1]);
+    let is_kind = place % 4 == 1;
+    let is_first = place == 0;
+    match rng.below(8) {
+        0 | 1 if words.len() > 1 => words.truncate(words.len() - rng.between(1, 3) as usize),
+        2 => words.extend(vec!["0".to_string(); rng.between(1, 3) as usize]),
+        // How many there are is not said.
+        3 => words.insert(1, list.len().to_string()),
+        4 if !is_first => words[place] = rng.pick(&TOO_LARGE).to_string(),
+        5 if is_kind => words[place] = rng.pick(&NO_KINDS).to_string(),
+        5 if !is_first => words[place] = rng.pick(&NO_NUMBERS).to_string(),
+        6 if !is_first && !is_kind => words[place] = rng.pick(&NAMES).to_string(),
+        _ => {
+            let wrong = ["bursts", "Burst", "BURST", "burs", "burst:", "ask", "7"];
+            words[0] = rng.pick(&wrong).to_string();
+        }
+    }
+    words.join(" ")
+}
+
+/// A program's calls over a journal of its own, which is lent whole to each of them.
+pub trait Checker {
+    fn open(&mut self, settings: (u64, u64, u64), client: u32, gaps: [u16; 20]) -> u64;
+    fn offer(&mut self, command: Command) -> Answer;
+    fn back(&mut self) -> u64;
+    fn burst(&mut self, list: &[Command]) -> BurstAnswer;
+    fn burst_bytes(&mut self, pieces: &[u8]) -> BurstAnswer;
+    fn ask(&self, kind: u64, rank: u64, bank: u64) -> Answer;
+    fn status(&self) -> Status;
+    fn journal(&self) -> &[u8];
+}
+
+/// The model with its journal.
+pub struct Model {
+    pub state: State,
+    pub journal: Vec<u8>,
+}
+
+impl Model {
+    pub fn new(journal: Vec<u8>) -> Model {
+        let state = State::fresh();
+        Model { state, journal }
+    }
+}
+
+impl Checker for Model {
+    fn open(&mut self, settings: (u64, u64, u64), client: u32, gaps: [u16; 20]) -> u64 {
+        self.state.open(&mut self.journal, settings, client, gaps)
+    }
+    fn offer(&mut self, command: Command) -> Answer {
+        self.state.offer(&mut self.journal, command)
+    }
+    fn back(&mut self) -> u64 {
+        self.state.back(&mut self.journal)
+    }
+    fn burst(&mut self, list: &[Command]) -> BurstAnswer {
+        self.state.burst(&mut self.journal, list)
+    }
+    fn burst_bytes(&mut self, pieces: &[u8]) -> BurstAnswer {
+        self.state.burst_bytes(&mut self.journal, pieces)
+    }
+    fn ask(&self, kind: u64, rank: u64, bank: u64) -> Answer {
+        self.state.ask(kind, rank, bank)
+    }
+    fn status(&self) -> Status {
+        self.state.status()
+    }
+    fn journal(&self) -> &[u8] {
+        &self.journal
+    }
+}
+
+/// Gaps at which lists soon meet one another, and gaps that let everything stand.
+fn any_gaps(rng: &mut Rng) -> [u16; 20] {
+    match rng.below(6) {
+        0 | 1 => SETTINGS_A,
+        2 => [0; 20],
+        3 => [(); 20].map(|()| rng.below(6) as u16),
+        4 => [(); 20].map(|()| rng.below(80) as u16),
+        _ => [(); 20].map(|()| rng.pick(&[0, 1, 4, 5, 255, 256, 65_532, 65_535])),
+    }
+}
+
+/// The model and another program, of the same calls.
+struct Pair<C> {
+    model: Model,
+    other: C,
+    widest: u64,
+    /// The commands that were handed over in lists.
+    handed: u64,
+}
+
+fn same<T: PartialEq + Debug>(call: &str, expected: T, got: T) -> Result<(), String> {
+    match expected == got {
+        true => Ok(()),
+        false => Err(format!(
+            "{call}\n  expected {expected:?}\n  got      {got:?}"
+        )),
+    }
+}
+
+impl<C: Checker> Pair<C> {
+    fn turn(&mut self, rng: &mut Rng) -> Result<(), String> {
+        match rng.below(20) {
+            0 => self.open(rng)?,
+            1 | 2 => {
+                for _ in 0..rng.pick(&[1, 1, 2, 5, 63, 64, 65, 70]) {
+                    same("back", self.model.back(), self.other.back())?;
+                }
+            }
+            3 | 4 => {
+                let list = any_burst(rng, &self.model.state, 1, self.widest);
+                for command in list {
+                    let about = format!("offer{}", words_of(&command, command.kind));
+                    same(&about, self.model.offer(command), self.other.offer(command))?;
+                }
+            }
+            5..=9 => self.burst_bytes(rng)?,
+            _ => self.burst(rng)?,
+        }
+        self.same_state(rng)
+    }
+
+    fn open(&mut self, rng: &mut Rng) -> Result<(), String> {
+        let settings = (rng.pick(&[1, 2, 4]), rng.between(1, 2), rng.below(2));
+        let (client, gaps) = (rng.draw() as u32, any_gaps(rng));
+        let expected = self.model.open(settings, client, gaps);
+        let about = format!("open {settings:?} {client} {gaps:?}");
+        same(&about, expected, self.other.open(settings, client, gaps))
+    }
+
+    fn burst(&mut self, rng: &mut Rng) -> Result<(), String> {
+        let list = any_burst(rng, &self.model.state, 200, self.widest);
+        self.handed += list.len() as u64;
+        let words = list.iter().map(|c| words_of(c, c.kind));
+        let about = format!("burst{}", words.collect::<String>());
+        same(&about, self.model.burst(&list), self.other.burst(&list))
+    }
+
+    fn burst_bytes(&mut self, rng: &mut Rng) -> Result<(), String> {
+        let list = any_burst(rng, &self.model.state, 200, WIDEST_IN_BYTES);
+        let mut bytes = pieces_of(rng, &list);
+        if rng.chance(60) {
+            // The last command is loose bytes then, and not to be looked at.
+            bytes.truncate(bytes.len().saturating_sub(rng.between(1, 63) as usize));
+        }
+        self.handed += (bytes.len() / RECORD) as u64;
+        let about = format!("burst of the {} bytes {bytes:?}", bytes.len());
+        let expected = self.model.burst_bytes(&bytes);
+        same(&about, expected, self.other.burst_bytes(&bytes))
+    }
+
+    /// Status, some questions and every byte of the journal.
+    fn same_state(&self, rng: &mut Rng) -> Result<(), String> {
+        same("status", self.model.status(), self.other.status())?;
+        for _ in 0..5 {
+            let (kind, rank) = (rng.between(1, 7), rng.below(2));
+            let bank = any_bank(rng, kind, 16);
+            let expected = self.model.ask(kind, rank, bank);
+            let about = format!("ask {kind} {rank} {bank}");
+            same(&about, expected, self.other.ask(kind, rank, bank))?;
+        }
+        let (expected, got) = (self.model.journal(), self.other.journal());
+        let differs = expected.iter().zip(got).position(|(a, b)| a != b);
+        same("the first byte of the journal that differs", None, differs)?;
+        same("the journal's length", expected.len(), got.len())
+    }
+}
+
+/// For tests of single calls in volume: in each round a fresh program over these bytes, then bursts in both forms, offers, take-backs and openings, and
+/// each answer, the state's answers and every byte of the journal held against the model. No kind, rank or bank in a list is above `widest`, at least
+/// 255; pieces of bytes stay below 256. Gives how many commands were handed over in lists, or the first difference.
+pub fn compare_burst_calls<C: Checker>(
+    seed: u64,
+    rounds: u64,
+    widest: u64,
+    mut fresh: impl FnMut(Vec<u8>) -> C,
+) -> Result<u64, String> {
+    let mut handed = 0;
+    for round in 0..rounds {
+        let mut rng = Rng::new(seed.wrapping_add(round));
+        let (few, many) = (rng.between(1, 12), rng.between(60, 400));
+        let room = RECORD as u64 * rng.pick(&[few, many, many]) + rng.pick(&[0, 0, 1, 63]);
+        // What is not written is not zeros, so that every byte that changes shows.
+        let journal: Vec<u8> = (0..room).map(|_| rng.draw() as u8).collect();
+        let mut pair = Pair {
+            model: Model::new(journal.clone()),
+            other: fresh(journal),
+            widest,
+            handed: 0,
+        };
+        for turn in 0..16 {
+            let played = match turn {
+                0 => pair.burst(&mut rng),
+                1 => pair.open(&mut rng),
+                _ => pair.turn(&mut rng),
+            };
+            played.map_err(|fault| format!("seed {seed}, round {round}, turn {turn}: {fault}"))?;
+        }
+        handed += pair.handed;
+    }
+    Ok(handed)
+}
+
+/// Bursts that are wrong in one way, so that calls and scripts can be shown to tell.
+#[cfg(test)]
+pub mod wrong {
+    use super::*;
+    use crate::model::room;
+
+    /// A list into a state and its journal.
+    pub type Burst = fn(&mut State, &mut [u8], &[Command]) -> BurstAnswer;
+    /// The commands of pieces of bytes.
+    pub type Cut = fn(&[u8]) -> Vec<Command>;
+
+    const NONE: Answer = Answer {
+        number: 0,
+        cycle: 0,
+        gap: 0,
+    };
+
+    /// Every command offered, the refused ones too: all answers.
+    fn all(state: &mut State, lent: &mut [u8], list: &[Command]) -> Vec<Answer> {
+        let offer = |command: &Command| state.offer(lent, *command);
+        list.iter().map(offer).collect()
+    }
+
+    fn refusals(answers: &[Answer]) -> impl DoubleEndedIterator<Item = Answer> + '_ {
+        answers.iter().copied().filter(|a| a.number != 0)
+    }
+
+    /// Those that go on behind a refusal, or stop before their time.
+    const ENDS: [(&str, Burst); 5] = [
+        ("goes on after a refusal", |state, lent, list| {
+            let answers = all(state, lent, list);
+            let count = answers.iter().filter(|a| a.number == 0).count();
+            let refusal = refusals(&answers).next().unwrap_or(NONE);
+            BurstAnswer { count, refusal }
+        }),
+        ("goes on, the last refusal told", |state, lent, list| {
+            let answers = all(state, lent, list);
+            let count = answers.iter().take_while(|a| a.number == 0).count();
+            let refusal = refusals(&answers).next_back().unwrap_or(NONE);
+            BurstAnswer { count, refusal }
+        }),
+        ("the last command left out", |state, lent, list| {
+            state.burst(lent, &list[..list.len().saturating_sub(1)])
+        }),
+        ("only 64 looked at", |state, lent, list| {
+            state.burst(lent, &list[..list.len().min(64)])
+        }),
+        ("the first one twice", |state, lent, list| {
+            let first = list.iter().take(1);
+            let twice: Vec<Command> = first.chain(list).copied().collect();
+            state.burst(lent, &twice)
+        }),
+    ];
+
+    /// Those that leave what they should and tell something else.
+    const TOLD: [(&str, Burst); 8] = [
+        ("the count one too many", |state, lent, list| {
+            let mut told = state.burst(lent, list);
+            told.count += usize::from(told.refusal.number != 0);
+            told
+        }),
+        ("the count is the list's", |state, lent, list| {
+            let mut told = state.burst(lent, list);
+            told.count = list.len();
+            told
+        }),
+        ("a count of 6 bits", |state, lent, list| {
+            let mut told = state.burst(lent, list);
+            told.count %= 64;
+            told
+        }),
+        ("the refusal's cycle missing", |state, lent, list| {
+            let mut told = state.burst(lent, list);
+            told.refusal.cycle = 0;
+            told
+        }),
+        ("the refusal's gap missing", |state, lent, list| {
+            let mut told = state.burst(lent, list);
+            told.refusal.gap = 0;
+            told
+        }),
+        ("the refused cycle told", |state, lent, list| {
+            let mut told = state.burst(lent, list);
+            if let Some(refused) = list.get(told.count) {
+                told.refusal.cycle = u128::from(refused.cycle);
+            }
+            told
+        }),
+        ("the last accepted cycle told", |state, lent, list| {
+            let mut told = state.burst(lent, list);
+            if told.refusal.number == 0 {
+                told.refusal.cycle = u128::from(list.last().map_or(0, |c| c.cycle));
+            }
+            told
+        }),
+        (
+            "an empty list refused without a session",
+            |state, lent, list| {
+                let mut told = state.burst(lent, list);
+                told.refusal.number = told.refusal.number.max(state.status().number);
+                told
+            },
+        ),
+    ];
+
+    /// All or nothing: back to the state before, and often the journal too.
+    fn back_to(state: &mut State, before: State, told: BurstAnswer) -> BurstAnswer {
+        if told.refusal.number == 0 {
+            return told;
+        }
+        *state = before;
+        BurstAnswer { count: 0, ..told }
+    }
+
+    /// Those that leave something else.
+    const LEFT: [(&str, Burst); 5] = [
+        ("all or nothing", |state, lent, list| {
+            let (before, bytes) = (state.clone(), lent.to_vec());
+            let told = state.burst(lent, list);
+            if told.refusal.number != 0 {
+                lent.copy_from_slice(&bytes);
+            }
+            back_to(state, before, told)
+        }),
+        ("all or nothing, the bytes left", |state, lent, list| {
+            let before = state.clone();
+            let told = state.burst(lent, list);
+            back_to(state, before, told)
+        }),
+        ("all or nothing, the count told", |state, lent, list| {
+            let (before, bytes) = (state.clone(), lent.to_vec());
+            let told = state.burst(lent, list);
+            if told.refusal.number != 0 {
+                lent.copy_from_slice(&bytes);
+                *state = before;
+            }
+            told
+        }),
+        (
+            "a byte of the refused command written",
+            |state, lent, list| {
+                let told = state.burst(lent, list);
+                let place = lent.get_mut(RECORD * state.records.len());
+                if let Some(place) = place.filter(|_| told.refusal.number != 0) {
+                    *place = 2;
+                }
+                told
+            },
+        ),
+        (
+            "too early not seen behind the first",
+            |state, lent, list| {
+                for (count, command) in list.iter().enumerate() {
+                    let refusal = state.offer(lent, *command);
+                    if count > 0 && refusal.number == 7 && state.records.len() < room(lent) {
+                        state.records.push(Record::Command(*command));
+                    } else if refusal.number != 0 {
+                        return BurstAnswer { count, refusal };
+                    }
+                }
+                state.burst(lent, &[])
+            },
+        ),
+    ];
+
+    fn cut_down(list: &[Command], cut: fn(&mut Command)) -> Vec<Command> {
+        let mut list = list.to_vec();
+        list.iter_mut().for_each(cut);
+        list
+    }
+
+    /// Those that look at something first, or not at all of it.
+    const LOOKED: [(&str, Burst); 7] = [
+        ("room for all looked for first", |state, lent, list| {
+            let refusal = Answer { number: 9, ..NONE };
+            match state.records.len() + list.len() > room(lent) && !list.is_empty() {
+                true => BurstAnswer { count: 0, refusal },
+                false => state.burst(lent, list),
+            }
+        }),
+        ("no room for nothing refused", |state, lent, list| {
+            let mut told = state.burst(lent, list);
+            if list.is_empty() && state.records.len() >= room(lent) {
+                told.refusal.number = 9;
+            }
+            told
+        }),
+        ("all places looked at first", |state, lent, list| {
+            let asked = list.iter().map(|c| state.ask(c.kind, c.rank, c.bank));
+            match asked.into_iter().find(|a| a.number != 0) {
+                Some(refusal) => BurstAnswer { count: 0, refusal },
+                None => state.burst(lent, list),
+            }
+        }),
+        ("kinds of 8 bits", |state, lent, list| {
+            state.burst(lent, &cut_down(list, |c| c.kind &= 255))
+        }),
+        ("ranks of 32 bits", |state, lent, list| {
+            state.burst(lent, &cut_down(list, |c| c.rank &= (1 << 32) - 1))
+        }),
+        ("banks of 16 bits", |state, lent, list| {
+            state.burst(lent, &cut_down(list, |c| c.bank &= 65_535))
+        }),
+        ("cycles of 48 bits", |state, lent, list| {
+            state.burst(lent, &cut_down(list, |c| c.cycle &= (1 << 48) - 1))
+        }),
+    ];
+
+    /// Each is right but for what its name says.
+    pub fn bursts() -> Vec<(&'static str, Burst)> {
+        [ENDS.as_slice(), &TOLD, &LEFT, &LOOKED].concat()
+    }
+
+    fn whole(pieces: &[u8]) -> Vec<Command> {
+        pieces
+            .chunks_exact(RECORD)
+            .map(Command::in_record)
+            .collect()
+    }
+
+    /// Each is right but for what its name says.
+    pub const CUTS: [(&str, Cut); 7] = [
+        ("one more piece read", |pieces| {
+            let mut longer = pieces.to_vec();
+            longer.resize(pieces.len().div_ceil(RECORD) * RECORD, 0);
+            whole(&longer)
+        }),
+        ("loose bytes make it nothing", |pieces| {
+            match pieces.len() % RECORD {
+                0 => whole(pieces),
+                _ => Vec::new(),
+            }
+        }),
+        ("byte 0 looked at", |pieces| {
+            let good = pieces.chunks_exact(RECORD).take_while(|p| p[0] == 2);
+            good.map(Command::in_record).collect()
+        }),
+        ("spare bytes looked at", |pieces| {
+            let good = |p: &&[u8]| p[16..].iter().all(|b| *b == 0);
+            let pieces = pieces.chunks_exact(RECORD).take_while(good);
+            pieces.map(Command::in_record).collect()
+        }),
+        ("the bank in byte 4", |pieces| {
+            let bank = |p: &[u8]| Command {
+                bank: u64::from(p[4]),
+                ..Command::in_record(p)
+            };
+            pieces.chunks_exact(RECORD).map(bank).collect()
+        }),
+        ("cycles of 32 bits", |pieces| {
+            cut_down(&whole(pieces), |c| c.cycle &= (1 << 32) - 1)
+        }),
+        ("cycles the other way round", |pieces| {
+            cut_down(&whole(pieces), |c| c.cycle = c.cycle.swap_bytes())
+        }),
+    ];
+
+    /// A program with one of them, or the right ones.
+    pub struct Program {
+        pub model: Model,
+        pub burst: Burst,
+        pub cut: Cut,
+    }
+
+    /// Single offers in a row, and not the model's own burst: what was accepted is counted by its records.
+    fn in_a_row(state: &mut State, lent: &mut [u8], list: &[Command]) -> BurstAnswer {
+        let before = state.records.len();
+        let mut answers = list.iter().map(|command| state.offer(lent, *command));
+        let refusal = answers.find(|answer| answer.number != 0).unwrap_or(NONE);
+        let count = state.records.len() - before;
+        BurstAnswer { count, refusal }
+    }
+
+    pub const RIGHT: (Burst, Cut) = (in_a_row, whole);
+
+    impl Checker for Program {
+        fn open(&mut self, settings: (u64, u64, u64), client: u32, gaps: [u16; 20]) -> u64 {
+            self.model.open(settings, client, gaps)
+        }
+        fn offer(&mut self, command: Command) -> Answer {
+            self.model.offer(command)
+        }
+        fn back(&mut self) -> u64 {
+            self.model.back()
+        }
+        fn burst(&mut self, list: &[Command]) -> BurstAnswer {
+            (self.burst)(&mut self.model.state, &mut self.model.journal, list)
+        }
+        fn burst_bytes(&mut self, pieces: &[u8]) -> BurstAnswer {
+            self.burst(&(self.cut)(pieces))
+        }
+        fn ask(&self, kind: u64, rank: u64, bank: u64) -> Answer {
+            self.model.ask(kind, rank, bank)
+        }
+        fn status(&self) -> Status {
+            self.model.status()
+        }
+        fn journal(&self) -> &[u8] {
+            self.model.journal()
+        }
+    }
+}
+
+#[cfg(test)]
+mod tests {
+    use super::*;
+    use crate::console::Console;
+    use crate::generate::script;
+    use std::collections::BTreeMap;
+
+    fn compared(
+        seed: u64,
+        rounds: u64,
+        (burst, cut): (wrong::Burst, wrong::Cut),
+    ) -> Result<u64, String> {
+        compare_burst_calls(seed, rounds, u64::MAX, |journal| wrong::Program {
+            model: Model::new(journal),
+            burst,
+            cut,
+        })
+    }
+
+    #[test]
+    fn a_right_program_is_found_right() {
+        let handed = compared(1, 400, wrong::RIGHT);
+        assert!(handed.as_ref().is_ok_and(|n| *n > 50_000), "{handed:?}");
+        let handed = compare_burst_calls(2, 50, WIDEST_IN_BYTES, Model::new);
+        assert!(handed.as_ref().is_ok_and(|n| *n > 5_000), "{handed:?}");
+    }
+
+    #[test]
+    fn wrong_programs_are_found_wrong() {
+        let (right, whole) = wrong::RIGHT;
+        let bursts = wrong::bursts()
+            .into_iter()
+            .map(|(name, burst)| (name, (burst, whole)));
+        let cuts = wrong::CUTS
+            .into_iter()
+            .map(|(name, cut)| (name, (right, cut)));
+        for (name, calls) in bursts.chain(cuts) {
+            for seed in [1, 1_000] {
+                let report = compared(seed, 60, calls).expect_err(name);
+                assert!(
+                    report.contains("expected ") && report.contains("got "),
+                    "{name}"
+                );
+            }
+        }
+    }
+
+    /// States of every mood, each with some room behind its records.
+    fn states() -> impl Iterator<Item = (State, Vec<u8>)> {
+        (0..39).map(|seed| {
+            let (_, _, state) = State::restore(&script(seed, 60 + 5 * seed as usize).good);
+            let journal = state.journal();
+            let room = [journal, vec![7; RECORD * (seed as usize % 5) * 12 + 9]].concat();
+            (state, room)
+        })
+    }
+
+    /// What the request says of a list: document 01's answers one by one, each from a journal that is restored anew.
+    fn expected(state: &State, lent: &[u8], list: &[Command]) -> (BurstAnswer, State, Vec<u8>) {
+        let mut bytes = lent.to_vec();
+        let mut end = RECORD * state.records.len();
+        let opening = state.session().map_or(0, |s| s.0);
+        for (count, command) in list.iter().enumerate() {
+            let (number, _, restored) = State::restore(&bytes[..end]);
+            assert_eq!(number, 0);
+            let due = bytes_of(&Record::Command(*command), opening);
+            let fits = [command.kind, command.rank, command.bank]
+                .iter()
+                .all(|n| *n < 256);
+            let is_good = fits && restored.read(&due).is_some();
+            if !is_good || end + RECORD > lent.len() {
+                let refusal = refusal(&restored, command, is_good);
+                return (BurstAnswer { count, refusal }, restored, bytes);
+            }
+            bytes[end..end + RECORD].copy_from_slice(&due);
+            end += RECORD;
+        }
+        let (_, _, restored) = State::restore(&bytes[..end]);
+        let (count, refusal) = (list.len(), zeros(0));
+        (BurstAnswer { count, refusal }, restored, bytes)
+    }
+
+    fn zeros(number: u64) -> Answer {
+        Answer {
+            number,
+            cycle: 0,
+            gap: 0,
+        }
+    }
+
+    /// Document 01's lines from the last one up: the first that holds is left.
+    fn refusal(state: &State, command: &Command, is_good: bool) -> Answer {
+        let Command {
+            kind,
+            rank,
+            bank,
+            cycle,
+        } = *command;
+        let earliest = state.ask(kind, rank, bank);
+        let last = state.survivors().last().map(|s| s.cycle);
+        let mut answer = zeros(9);
+        if !is_good {
+            answer = Answer {
+                number: 7,
+                ..earliest
+            };
+        }
+        if last.is_some_and(|last| last >= cycle) {
+            answer = zeros(6);
+        }
+        if cycle >= 1 << 40 {
+            answer = zeros(5);
+        }
+        if bank >= 16 || (bank > 0 && (kind == 5 || kind == 6)) {
+            answer = zeros(4);
+        }
+        if state.session().is_some_and(|s| rank >= s.1.ranks) {
+            answer = zeros(3);
+        }
+        if kind == 0 || kind >= 8 {
+            answer = zeros(2);
+        }
+        match state.session() {
+            Some(_) => answer,
+            None => zeros(1),
+        }
+    }
+
+    /// Single offers in a row, and what a restore and the document's lines make of the same list.
+    #[test]
+    fn a_burst_is_single_offers_up_to_a_refusal() {
+        let mut rng = Rng::new(11);
+        for (state, room) in states() {
+            for _ in 0..12 {
+                let list = any_burst(&mut rng, &state, 30, u64::MAX);
+                let (mut given, mut lent) = (state.clone(), room.clone());
+                let told = given.burst(&mut lent, &list);
+                let (due, left, bytes) = expected(&state, &room, &list);
+                assert_eq!(told, due);
+                assert!(given == left && lent == bytes);
+                let (mut single, mut lent) = (state.clone(), room.clone());
+                let answers = list.iter().map(|c| single.offer(&mut lent, *c));
+                let refused = answers.into_iter().find(|a| a.number != 0);
+                assert_eq!(told.refusal, refused.unwrap_or(zeros(0)));
+                assert!(given == single && lent == bytes);
+            }
+        }
+    }
+
+    /// Lists in both forms, where bytes can say them, with loose bytes and without.
+    #[test]
+    fn both_forms_are_equal() {
+        let mut rng = Rng::new(12);
+        for (state, room) in states() {
+            for _ in 0..20 {
+                let list = any_burst(&mut rng, &state, 40, WIDEST_IN_BYTES);
+                let mut pieces = pieces_of(&mut rng, &list);
+                let loose = rng.pick(&[0, 1, 16, 63]);
+                pieces.extend((0..loose).map(|_| rng.draw() as u8));
+                let (mut one, mut lent) = (state.clone(), room.clone());
+                let (mut other, mut bytes) = (state.clone(), room.clone());
+                let told = one.burst(&mut lent, &list);
+                assert_eq!(told, other.burst_bytes(&mut bytes, &pieces));
+                assert!(one == other && lent == bytes);
+            }
+        }
+    }
+
+    /// Lists that reach little could not show a fault.
+    #[test]
+    fn drawn_lists_reach_every_answer() {
+        let mut rng = Rng::new(13);
+        let mut seen: BTreeMap<String, u64> = BTreeMap::new();
+        for (state, _) in states() {
+            for _ in 0..60 {
+                let list = any_burst(&mut rng, &state, 150, u64::MAX);
+                let mut lent = vec![0; RECORD * (state.records.len() + 150)];
+                let told = state.clone().burst(&mut lent, &list);
+                let number = told.refusal.number;
+                let mut keys = vec![format!("{number}"), format!("length {}", list.len().min(2))];
+                if number != 0 {
+                    let places = [("first", 0), ("last", list.len() - 1)];
+                    let at = places.iter().find(|p| p.1 == told.count);
+                    keys.push(format!("{number} {}", at.map_or("between", |p| p.0)));
+                }
+                if told.count > 64 {
+                    keys.push("past the depth".to_string());
+                }
+                for key in keys {
+                    *seen.entry(key).or_default() += 1;
+                }
+            }
+        }
+        let mut due: Vec<(String, u64)> = (2..=7).map(|n| (format!("{n}"), 60)).collect();
+        for place in ["first", "last", "between"] {
+            due.extend((2..=7).map(|n| (format!("{n} {place}"), 10)));
+        }
+        due.extend([0, 1, 2].map(|length| (format!("length {length}"), 50)));
+        due.extend(["0", "past the depth"].map(|key| (key.to_string(), 100)));
+        for (key, least) in due {
+            assert!(
+                seen.get(&key).is_some_and(|n| *n >= least),
+                "{key}: {seen:?}"
+            );
+        }
+    }
+
+    #[test]
+    fn lines_that_are_malformed() {
+        let mut rng = Rng::new(14);
+        let mut console = Console::new();
+        console.line(crate::generate::opening_a().as_bytes(), true);
+        for _ in 0..5_000 {
+            let list = any_burst(&mut rng, &console.state, 6, u64::MAX);
+            let line = malformed_burst_line(&mut rng, &list);
+            let answer = console.line(line.as_bytes(), true);
+            assert_eq!(answer.as_deref(), Some("?"), "{line}");
+        }
+        assert_eq!(console.state.records.len(), 1);
+    }
+
+    /// A line says its list, as far as it is not too long.
+    #[test]
+    fn lines_of_lists() {
+        let mut rng = Rng::new(15);
+        for (state, _) in states() {
+            let list = any_burst(&mut rng, &state, 300, u64::MAX);
+            let line = burst_line(&mut rng, &list);
+            let words: Vec<&[u8]> = line.split(' ').skip(1).map(str::as_bytes).collect();
+            let said = crate::console::commands(&words).unwrap();
+            assert!(line.len() <= LONGEST_LINE && list.starts_with(&said));
+            assert!(said.len() == list.len() || line.len() > LONGEST_LINE - 100);
+            let line = fullest_line(&mut rng);
+            assert_eq!((line.len(), line.split(' ').count()), (4_093, 1 + 4 * 511));
+        }
+    }
+}
