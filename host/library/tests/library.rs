@@ -550,12 +550,21 @@ fn any_state_value() {
         let part = checker::stretch(&session, lent.len());
         assert!(part.start + part.size <= lent.len());
         let cycle = rng.draw() >> rng.below(64);
-        let number = match rng.below(3) {
-            0 => checker::offer(&mut session, &mut lent, kind, rank, bank, cycle).number,
-            1 => checker::take_back(&mut session, &mut lent),
-            _ => checker::open(&mut session, &mut lent, (1, 1, 1), 9, &SETTINGS_A),
+        let command = ffi::Command {
+            kind,
+            rank,
+            bank,
+            cycle,
         };
-        if number != 0 {
+        let list = vec![command; rng.below(4) as usize];
+        let is_written = match rng.below(5) {
+            0 => checker::offer(&mut session, &mut lent, kind, rank, bank, cycle).number == 0,
+            1 => checker::take_back(&mut session, &mut lent) == 0,
+            2 => checker::offer_all(&mut session, &mut lent, &list).0 > 0,
+            3 => checker::offer_pieces(&mut session, &mut lent, &bytes).0 > 0,
+            _ => checker::open(&mut session, &mut lent, (1, 1, 1), 9, &SETTINGS_A) == 0,
+        };
+        if !is_written {
             assert_eq!(session, before);
             assert!(lent == bytes);
         }
@@ -618,9 +627,11 @@ fn any_line_on_any_state_value() {
             let said = console.line(&mut session, &mut journal, &line.sent, rng.chance(90));
             let came = answer(said, &journal).unwrap_or_default();
             let is_restored = came.starts_with("restore") || came.starts_with("poke");
+            let is_some = came.starts_with("burst ") && !came.starts_with("burst 0 ");
             let is_accepted = ["open 0", "offer 0", "back 0"]
                 .iter()
-                .any(|a| came.starts_with(a));
+                .any(|a| came.starts_with(a))
+                || is_some;
             assert!(
                 is_restored || is_accepted || (session == before && journal == bytes),
                 "{came}"
@@ -685,11 +696,33 @@ fn a_full_journal() {
     assert_eq!(session, checker::fresh());
 }
 
+/// 0 if both commands of a burst were accepted.
+fn two_structs(session: &mut Session, lent: &mut [u8], _: &mut [u8]) -> u64 {
+    let act = |bank, cycle| ffi::Command {
+        kind: 1,
+        rank: 0,
+        bank,
+        cycle,
+    };
+    let (count, told) = checker::offer_all(session, lent, &[act(3, 200), act(4, 250)]);
+    count.abs_diff(2) + told.number
+}
+
+/// The same in bytes, with some left over.
+fn two_pieces(session: &mut Session, lent: &mut [u8], _: &mut [u8]) -> u64 {
+    let mut pieces = [0; 3 * RECORD - 1];
+    for (at, bank) in [(0, 3), (RECORD, 4)] {
+        (pieces[at + 1], pieces[at + 3], pieces[at + 8]) = (1, bank, 50 + 50 * bank);
+    }
+    let (count, told) = checker::offer_pieces(session, lent, &pieces);
+    count.abs_diff(2) + told.number
+}
+
 /// Each call on the stack that the header asks for: one that takes more ends this test's process.
 #[test]
 fn on_64_kib_of_stack() {
     type Call = fn(&mut Session, &mut [u8], &mut [u8]) -> u64;
-    let calls: [Call; 11] = [
+    let calls: [Call; 13] = [
         |s, _, _| {
             *s = checker::fresh();
             s.progress.records
@@ -697,6 +730,8 @@ fn on_64_kib_of_stack() {
         |_, _, _| checker::gaps(625, &[26_250; 20]).number,
         |s, lent, _| checker::open(s, lent, (4, 2, 1), 7, &SETTINGS_A),
         |s, lent, _| checker::offer(s, lent, 1, 0, 3, 100).number,
+        two_structs,
+        two_pieces,
         |s, _, _| checker::earliest(s, 2, 0, 3).number,
         |s, lent, _| checker::take_back(s, lent),
         |s, _, _| checker::status(s).number,

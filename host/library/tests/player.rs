@@ -1,13 +1,16 @@
 //! examples/player.c and the player in Rust: played, their disk cut anywhere, each of their calls failing, and their journals held
 //! against the model. And the header: in C and in C++, its sizes and offsets are the library's.
 
+use rossinhiu::bench::{Bench, Journal, Kind, Settings};
 use rossinhiu::ffi;
+use rossinhiu_model::burst_calls::{any_burst, Checker, Model, WIDEST_IN_BYTES};
 use rossinhiu_model::disk::{Disk, Told};
-use rossinhiu_model::generate::Rng;
+use rossinhiu_model::generate::{Rng, SETTINGS_A};
 use rossinhiu_model::harness::*;
-use rossinhiu_model::model::{Command as Offer, State, NAMES, RECORD};
+use rossinhiu_model::model::{Answer, BurstAnswer, Command as Offer, State, NAMES, RECORD};
 use rossinhiu_model::sheet::SheetAnswer;
 use rossinhiu_model::sheet_calls::any_sheet;
+use std::collections::BTreeSet;
 use std::fs;
 use std::mem::{offset_of, size_of};
 use std::path::{Path, PathBuf};
@@ -365,6 +368,90 @@ fn each_call_failing() {
     }
 }
 
+// A burst through the library.
+
+/// Names the journal to the test that plays itself.
+const BURST_JOURNAL: &str = "ROSSINHIU_BURST_JOURNAL";
+
+/// An opening, and behind it twenty commands: records 1 to 20 lie in three sectors.
+fn play_burst(journal: &Path) {
+    let settings = Settings {
+        ratio: 4,
+        ranks: 1,
+        mode: 0,
+        client: 7,
+        gaps: [0; 20],
+    };
+    let journal = Journal::at(journal, 100).expect("a journal");
+    let mut bench = Bench::restore(journal).expect("a bench");
+    bench.open(&settings).expect("an opening");
+    let command = |n| rossinhiu::bench::Command::new(Kind::Rd, 0, n % 16, n);
+    let list: Vec<_> = (0..20).map(command).collect();
+    match bench.offer_all(&list) {
+        Ok(burst) => println!("told {}", burst.accepted),
+        Err(failed) => println!("failed {:?}", failed.step),
+    }
+}
+
+/// The calls of such a play on its journal, each with its place and size, and what it then says; and what the file holds.
+fn burst_played(plan: &str) -> (Vec<(String, i64, i64)>, Vec<u8>) {
+    let folder = Folder::new();
+    let (journal, log) = (folder.at("journal"), folder.at("log"));
+    let this = std::env::current_exe().expect("this test's own path");
+    let words = ["--exact", THE_BURST, "--nocapture"].map(Path::new);
+    let mut played = shimmed(&this, &words, &log, plan);
+    let done = run(played.env(BURST_JOURNAL, &journal), b"");
+    assert!(done.status.success(), "{plan}: {}", done.said());
+    let (mut file, mut seen) = (-1, Vec::new());
+    for call in calls(&log) {
+        let text = String::from_utf8_lossy(&call.bytes).into_owned();
+        match call.name.as_str() {
+            "open" if Path::new(&call.path) == journal => file = call.fd,
+            "pwrite" | "fdatasync" if call.fd == file => {
+                seen.push((call.name, call.offset, call.count))
+            }
+            "write" if text.contains("told ") || text.contains("failed ") => {
+                seen.push((text.trim().to_string(), 0, 0))
+            }
+            _ => {}
+        }
+    }
+    (seen, fs::read(&journal).unwrap())
+}
+
+const THE_BURST: &str = "a_burst_goes_to_the_disk_sector_by_sector";
+
+/// Each sector's records in one write, and durable before the next are written; all of them before the call returns. Where a write or
+/// a sync fails, nothing more is written.
+#[test]
+fn a_burst_goes_to_the_disk_sector_by_sector() {
+    if let Some(journal) = std::env::var_os(BURST_JOURNAL) {
+        return play_burst(Path::new(&journal));
+    }
+    let (whole, file) = burst_played("");
+    let mut due = vec![("fdatasync".to_string(), 0, 0)];
+    for (at, count) in [(0, 64), (64, 448), (512, 512), (1024, 320)] {
+        due.push(("pwrite".to_string(), at, count));
+        due.push(("fdatasync".to_string(), 0, 0));
+    }
+    due.push(("told 20".to_string(), 0, 0));
+    assert_eq!(whole, due);
+    assert_eq!(State::restore(&file).2.records.len(), 21);
+    // The start syncs once; then come a write and its sync in turn, the opening's first.
+    for (turn, end) in [(2, 64), (3, 512), (4, 1024)] {
+        let (mut came, kept) = burst_played(&format!("pwrite {turn} errno 5"));
+        assert_eq!(came.pop().unwrap().0, "failed Write");
+        assert_eq!(came, whole[..2 * turn]);
+        assert!(kept == file[..end], "turn {turn}");
+    }
+    for (turn, end) in [(3, 512), (4, 1024), (5, 1344)] {
+        let (mut came, kept) = burst_played(&format!("fdatasync {turn} errno 5"));
+        assert_eq!(came.pop().unwrap().0, "failed Sync");
+        assert_eq!(came, whole[..2 * turn - 1]);
+        assert!(kept == file[..end], "turn {turn}");
+    }
+}
+
 // The header.
 
 /// A program that hands in NULL wherever that may be handed in.
@@ -387,6 +474,12 @@ int main(void) {
     printf(" %d", (int)rossinhiu_offer(s.session, NULL, 0, ROSSINHIU_ACT, 0, 0, 0).number);
     printf(" %d", (int)rossinhiu_take_back(fresh, NULL, 0).number);
     printf(" %d %d", (int)rossinhiu_restore(NULL, 0).number, (int)rossinhiu_status(s.session).client);
+    struct rossinhiu_command act = {ROSSINHIU_ACT, 0, 0, 0};
+    uint8_t piece[64] = {0, ROSSINHIU_ACT};
+    printf(" %d", (int)rossinhiu_offer_all(fresh, NULL, 0, NULL, 0).number);
+    printf(" %d", (int)rossinhiu_offer_all(s.session, NULL, 0, &act, 1).number);
+    printf(" %d", (int)rossinhiu_offer_pieces(fresh, NULL, 0, NULL, 0).number);
+    printf(" %d", (int)rossinhiu_offer_pieces(s.session, NULL, 0, piece, sizeof piece).number);
     printf(" %d %d %.*s", (int)empty.ended, (int)nowhere.written, (int)empty.written, (const char *)lines);
     return 0;
 }
@@ -415,7 +508,7 @@ fn in_c_and_in_cpp(text: &str, input: &[u8]) -> [String; 2] {
 /// NULL where nothing is lent.
 #[test]
 fn the_header_in_c_and_in_cpp() {
-    let due = "0 back 8 9 0 9 1 0 7 1 0 end 0 0\n";
+    let due = "0 back 8 9 0 9 1 0 7 0 9 0 9 1 0 end 0 0\n";
     assert_eq!(in_c_and_in_cpp(NULLS, b""), [due, due]);
 }
 
@@ -478,6 +571,118 @@ fn data_sheets_in_c_and_in_cpp() {
     for number in ["0", "13", "14"] {
         assert!(due.contains(&format!("gaps {number} ")), "{number}");
     }
+}
+
+/// A program that reads lists, each with its form (0 structs, 1 pieces of bytes) and its length before it, and prints what each burst came
+/// to. 2 stands for an opening; 3 ends a round: the journal's bytes, and all begins anew.
+const BURSTS: &str = r#"
+#include "rossinhiu.h"
+#include <inttypes.h>
+#include <stdio.h>
+#include <stdlib.h>
+#include <string.h>
+enum { MOST = 200, ROOM = 150 * 64 + 5 };
+static uint64_t number(void) {
+    uint64_t given;
+    if (scanf("%" SCNu64, &given) != 1)
+        exit(1);
+    return given;
+}
+/* A byte that is not to be read is none that could be right. */
+static void lay(uint8_t *piece, struct rossinhiu_command one) {
+    memset(piece, 0xee, 64);
+    piece[1] = (uint8_t)one.kind;
+    piece[2] = (uint8_t)one.rank;
+    piece[3] = (uint8_t)one.bank;
+    for (int i = 0; i < 8; i++)
+        piece[8 + i] = (uint8_t)(one.cycle >> 8 * i);
+}
+int main(void) {
+    static struct rossinhiu_command list[MOST];
+    static uint8_t pieces[64 * MOST + 63], journal[ROOM];
+    struct rossinhiu_session session = rossinhiu_fresh();
+    struct rossinhiu_gaps gaps;
+    for (int i = 0; i < 20; i++)
+        gaps.gap[i] = (uint16_t)number();
+    uint64_t form;
+    while (scanf("%" SCNu64, &form) == 1) {
+        if (form == 2) {
+            session = rossinhiu_open(session, journal, sizeof journal, 4, 2, 1, 7, gaps).session;
+        } else if (form == 3) {
+            for (int i = 0; i < ROOM; i++)
+                printf("%02x", journal[i]);
+            printf("\n");
+            memset(journal, 0, sizeof journal);
+            session = rossinhiu_fresh();
+        } else {
+            size_t listed = (size_t)number();
+            for (size_t i = 0; i < listed; i++) {
+                struct rossinhiu_command *one = &list[i];
+                one->kind = number();
+                one->rank = number();
+                one->bank = number();
+                one->cycle = number();
+                lay(pieces + 64 * i, *one);
+            }
+            struct rossinhiu_burst done = form == 0
+                ? rossinhiu_offer_all(session, journal, sizeof journal, list, listed)
+                : rossinhiu_offer_pieces(session, journal, sizeof journal, pieces, 64 * listed + listed % 64);
+            printf("%" PRIu64 " %" PRIu64 " %" PRIu64 " %" PRIu64 "\n", done.count, done.number, done.cycle, done.gap);
+            session = done.session;
+        }
+    }
+    return 0;
+}
+"#;
+
+/// A round of that program: what it reads, and what it owes.
+fn round_by_model(rng: &mut Rng, lines: &mut String, due: &mut String) {
+    let mut model = Model::new(vec![0; 150 * RECORD + 5]);
+    for turn in 0..12 {
+        if turn == 1 {
+            model.open((4, 2, 1), 7, SETTINGS_A);
+            *lines += "2\n";
+        }
+        let form = rng.below(2);
+        let widest = [u64::MAX, WIDEST_IN_BYTES][form as usize];
+        let list = any_burst(rng, &model.state, 40, widest);
+        *lines += &format!("{form} {}", list.len());
+        for one in &list {
+            let (kind, rank, bank, cycle) = (one.kind, one.rank, one.bank, one.cycle);
+            *lines += &format!(" {kind} {rank} {bank} {cycle}");
+        }
+        *lines += "\n";
+        let BurstAnswer { count, refusal } = model.burst(&list);
+        let Answer { number, cycle, gap } = refusal;
+        *due += &format!("{count} {number} {cycle} {gap}\n");
+    }
+    *lines += "3\n";
+    let hex: String = model.journal.iter().map(|b| format!("{b:02x}")).collect();
+    *due += &format!("{hex}\n");
+}
+
+/// Lists of structs and of bytes, with refusals in the middle: counts, refusals, and every byte of the journal.
+#[test]
+fn bursts_in_c_and_in_cpp() {
+    let mut rng = Rng::new(seed());
+    let gaps = SETTINGS_A.map(|gap| gap.to_string());
+    let (mut lines, mut due) = (gaps.join(" ") + "\n", String::new());
+    for _ in 0..100 {
+        round_by_model(&mut rng, &mut lines, &mut due);
+    }
+    for came in in_c_and_in_cpp(BURSTS, lines.as_bytes()) {
+        let mut pairs = came.lines().zip(due.lines());
+        let other = pairs.find(|(came, due)| came != due);
+        assert!(came == due, "{other:?}");
+    }
+    let middle: BTreeSet<&str> = due
+        .lines()
+        .filter(|line| line.contains(' ') && !line.starts_with("0 "))
+        .map(|line| line.split(' ').nth(1).unwrap())
+        .collect();
+    let all = ["0", "2", "3", "4", "5", "6", "7", "9"];
+    assert_eq!(middle, BTreeSet::from(all));
+    assert!(due.contains("\n0 1 0 0\n"), "no session");
 }
 
 /// A header of another layout does not link with the archive, whatever is called.
