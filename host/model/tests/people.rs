@@ -54,7 +54,7 @@ fn examples_print_what_is_written(programs: &Programs) {
             names.insert(front.to_string());
         }
     }
-    for name in ["first", "settings-a", "odd-gaps", "data-sheet"] {
+    for name in ["first", "settings-a", "odd-gaps", "data-sheet", "burst"] {
         let trace = bytes(&format!("{name}.trace"));
         let expected = text(&format!("{name}.out"));
         assert_eq!(modelled(&trace), expected, "{name} by the model");
@@ -156,18 +156,25 @@ fn the_guide_shows_a_summary() {
     }
 }
 
+/// A section of the guide.
+fn section(title: &str) -> String {
+    let guide = fs::read_to_string(top().join("docs/GUIDE.md")).unwrap();
+    let (_, behind) = guide.split_once(&format!("## {title}\n")).expect(title);
+    behind.split("\n## ").next().unwrap().to_string()
+}
+
+/// The lines that a section shows: those typed, which stand in this trace, and the others, which are told.
+fn shown<'a>(section: &'a str, trace: &str) -> (Vec<&'a str>, Vec<&'a str>) {
+    let lines = section.lines().filter_map(|l| l.strip_prefix("    "));
+    lines.partition(|line| trace.lines().any(|l| l == *line))
+}
+
 /// What the guide types of a data sheet stands in the example, what it shows
 /// is printed, and its table has the same numbers.
 #[test]
 fn the_guide_goes_from_a_data_sheet_to_an_opening() {
-    let guide = fs::read_to_string(top().join("docs/GUIDE.md")).unwrap();
-    let title = "## From a data sheet to an opening\n";
-    let (_, behind) = guide.split_once(title).expect(title);
-    let section = behind.split("\n## ").next().unwrap();
-    let shown = section.lines().filter_map(|l| l.strip_prefix("    "));
-    let trace = text("data-sheet.trace");
-    let is_typed = |line: &&str| trace.lines().any(|l| l == *line);
-    let (typed, told): (Vec<&str>, Vec<&str>) = shown.partition(is_typed);
+    let section = section("From a data sheet to an opening");
+    let (typed, told) = shown(&section, &text("data-sheet.trace"));
     assert_eq!(
         modelled((typed.join("\n") + "\n").as_bytes()),
         told.join("\n") + "\n"
@@ -184,6 +191,19 @@ fn the_guide_goes_from_a_data_sheet_to_an_opening() {
     };
     assert_eq!(format!("gaps 625 {}", column(3).join(" ")), typed[0]);
     assert_eq!(format!("gaps 0 0 {}", column(4).join(" ")), told[0]);
+}
+
+/// The guide's bursts stand in the example, and with settings A open their answers are those that it shows.
+#[test]
+fn the_guide_plays_bursts() {
+    let section = section("A burst of commands");
+    let (typed, told) = shown(&section, &text("burst.trace"));
+    let trace = format!("{}\n{}\n", opening_a(), typed.join("\n"));
+    let due = format!("open 0\n{}\n", told.join("\n"));
+    assert_eq!(modelled(trace.as_bytes()), due);
+    assert!(told.contains(&"burst 1 7 13 4"));
+    assert!(section.contains("`7 13 4`") && section.contains("`burst 0 0 0 0`"));
+    assert_eq!(modelled(b"burst\n"), "burst 0 0 0 0\n");
 }
 
 // Traces of power tools.
@@ -242,6 +262,7 @@ fn bench_help_has_the_forms_and_the_numbers() {
         "bench --help",
         "open RATIO RANKS MODE CLIENT G1 .. G20 open N",
         "offer KIND RANK BANK CYCLE offer N CYCLE GAP",
+        "burst KIND RANK BANK CYCLE .. burst COUNT N CYCLE GAP",
         "ask KIND RANK BANK ask N CYCLE GAP",
         "back back N",
         "status status N CLIENT OPENING SURVIVORS DEPTH LAST RECORDS",

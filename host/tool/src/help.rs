@@ -26,7 +26,7 @@ rossinhiu bench [FILE] [--records N] [--refusals]
 Plays a trace, one request to a line, from standard input, and prints one answer to each.
 
   FILE           the journal is kept in FILE, one bench to a file; the first line printed is what FILE restores.
-                 The record of each accepted open, offer and back is on the disk before its answer is printed.
+                 Every record of an open, an offer, a burst and a back is on the disk before its answer is printed.
                  Without FILE the journal is memory, gone at the end
   --records N    the journal has room for N records, 1 to 16777216; 16777216 if not said
   --refusals     prints only what was refused or malformed, each with the number of its line in the trace
