@@ -86,3 +86,19 @@ fn every_answer_is_reached() {
     assert!(lines.iter().any(|l| above(l) && l[3] == "0"));
     assert!(lines.iter().any(|l| above(l) && l[3] != "0"));
 }
+
+/// Every number that can end a burst, at its first command and behind an accepted one.
+#[test]
+fn every_end_of_a_burst_is_reached() {
+    let text = String::from_utf8(file("stdout")).expect("answers are plain text");
+    let ends = |is_middle: bool| -> BTreeSet<u64> {
+        let answers = text.lines().filter_map(|l| l.strip_prefix("burst "));
+        let told = answers.filter(|l| l.starts_with("0 ") != is_middle);
+        told.map(|l| l.split(' ').nth(1).unwrap().parse().unwrap())
+            .collect()
+    };
+    assert_eq!(ends(false), BTreeSet::from([0, 1, 2, 3, 4, 5, 7, 9]));
+    assert_eq!(ends(true), BTreeSet::from([0, 2, 3, 4, 5, 6, 7, 9]));
+    // More than can be taken back, in one line.
+    assert!(text.contains("\nburst 66 0 0 0\n"));
+}
