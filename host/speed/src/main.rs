@@ -1,7 +1,10 @@
 //! The speed of the library's calls beside a plain Rust twin and the checker design of source 000: `cargo run --release --bin speed`
-//! prints the table of docs/SPEED.md. Every figure is a median of interleaved rounds over the same buffers.
-//! `speed full` adds a journal of 16,777,216 records (1 GiB).
+//! prints the tables of docs/SPEED.md. Every figure is a median of interleaved rounds over the same buffers.
+//! `speed full` adds a journal of 16,777,216 records (1 GiB); `speed bursts` prints the bursts alone.
 
+mod bursts;
+
+use rossinhiu::ffi::Command;
 use rossinhiu::{checker, ffi};
 use rossinhiu_model::generate::SETTINGS_A;
 use rossinhiu_model::model::{MOST_RECORDS, RECORD};
@@ -19,15 +22,17 @@ const TWIN: &str = "twin, `&mut`";
 const BY_VALUE: &str = "twin by value";
 const SOURCE: &str = "source 000";
 const BYTES: &str = "bytes only";
-const COLUMNS: [&str; 4] = [TWIN, BY_VALUE, SOURCE, BYTES];
 
-#[derive(Clone, Copy)]
-struct Command {
-    kind: u64,
-    rank: u64,
-    bank: u64,
-    cycle: u64,
+/// What its lines are about, and who stands beside the library.
+struct Table {
+    what: &'static str,
+    columns: &'static [&'static str],
 }
+
+const CALLS: Table = Table {
+    what: "Call",
+    columns: &[TWIN, BY_VALUE, SOURCE, BYTES],
+};
 
 /// A small generator of numbers; the same on every machine.
 struct Dice(u64);
@@ -111,9 +116,8 @@ fn median(mut values: Vec<f64>) -> f64 {
     values[values.len() / 2]
 }
 
-/// Runs the contenders in turns, the library first, and prints a line of the table: each one's median, and the median of the library's
-/// ratios to it.
-fn compare(title: &str, rounds: usize, mut contenders: Vec<Contender>) {
+/// Each contender's times; they take turns.
+fn times(rounds: usize, contenders: &mut [Contender]) -> Vec<Vec<f64>> {
     let mut times = vec![Vec::new(); contenders.len()];
     // The first rounds warm up; a few rounds over a gigabyte need none.
     let warm = if rounds > 5 { 2 } else { 0 };
@@ -125,18 +129,35 @@ fn compare(title: &str, rounds: usize, mut contenders: Vec<Contender>) {
             }
         }
     }
-    let library = times[0].clone();
-    print!("| {title} | {:.0} |", median(library.clone()));
-    for column in COLUMNS {
-        let place = contenders.iter().position(|c| c.name == column);
-        let Some(times) = place.map(|i| times[i].clone()) else {
-            print!(" | |");
-            continue;
-        };
-        let ratios = library.iter().zip(&times).map(|(a, b)| a / b).collect();
-        print!(" {:.0} | {:.2} |", median(times), median(ratios));
+    times
+}
+
+impl Table {
+    fn head(&self) {
+        print!("| {} | {LIBRARY}, ns |", self.what);
+        self.columns
+            .iter()
+            .for_each(|c| print!(" {c}, ns | ratio |"));
+        println!("\n|---|---|{}", "---|---|".repeat(self.columns.len()));
     }
-    println!();
+
+    /// Runs the contenders in turns, the library first, and prints a line: each one's median, and the median of the library's ratios
+    /// to it.
+    fn compare(&self, title: &str, rounds: usize, mut contenders: Vec<Contender>) {
+        let times = times(rounds, &mut contenders);
+        let library = &times[0];
+        print!("| {title} | {:.0} |", median(library.clone()));
+        for column in self.columns {
+            let place = contenders.iter().position(|c| c.name == *column);
+            let Some(times) = place.map(|i| &times[i]) else {
+                print!(" | |");
+                continue;
+            };
+            let ratios = library.iter().zip(times).map(|(a, b)| a / b).collect();
+            print!(" {:.0} | {:.2} |", median(times.clone()), median(ratios));
+        }
+        println!();
+    }
 }
 
 fn opened() -> ffi::Session {
@@ -176,53 +197,72 @@ fn offer_by_value(
     }
 }
 
-/// Offers each command from `start` on; every answer has the number expected.
-fn offers(
-    start: &ffi::Session,
+/// Offers each command; every answer has the number expected.
+fn offer_each(
+    state: &mut ffi::Session,
     room: &mut [u8],
     trace: &[Command],
     offer: Offer,
     expect: u64,
+) {
+    for c in trace {
+        let done = offer(state, room, c.kind, c.rank, c.bank, c.cycle);
+        assert_eq!(done.number, expect);
+    }
+}
+
+/// A round of so many commands from `start` on.
+fn from_start(
+    start: &ffi::Session,
+    room: &mut [u8],
+    commands: usize,
+    play: impl FnOnce(&mut ffi::Session, &mut [u8]),
 ) -> f64 {
     let mut state = *start;
+    timed(commands, || {
+        play(&mut state, room);
+        black_box(&state);
+    })
+}
+
+/// Source 000's design, with these commands in its tables.
+fn design_with(before: &[Command]) -> source000::Checker {
+    let mut design = source000::Checker::new(RATIO, RANKS as usize, MODE, &SETTINGS_A);
+    for c in before {
+        design.insert(c.kind as usize, c.rank as usize, c.bank as usize, c.cycle);
+    }
+    design
+}
+
+fn source_offers(before: &[Command], trace: &[Command]) -> f64 {
+    let mut design = design_with(before);
     timed(trace.len(), || {
         for c in trace {
-            let done = offer(&mut state, room, c.kind, c.rank, c.bank, c.cycle);
-            assert_eq!(done.number, expect);
+            let (kind, rank, bank) = (c.kind as usize, c.rank as usize, c.bank as usize);
+            black_box(design.offer(kind, rank, bank, c.cycle));
         }
-        black_box(&state);
     })
 }
 
 /// The four contenders of an offer, each over the same buffer.
 fn compare_offers(title: &str, start: &ffi::Session, before: &[Command], trace: &[Command]) {
-    let accepted = before.is_empty();
     let mut room = vec![0; (OFFERS + 2) * RECORD + start.progress.records as usize * RECORD];
     let room = std::cell::RefCell::new(&mut room[..]);
-    let expect = if accepted { 0 } else { 7 };
-    let run = |offer: Offer| offers(start, &mut room.borrow_mut(), trace, offer, expect);
-    compare(
+    let expect = if before.is_empty() { 0 } else { 7 };
+    let run = |offer: Offer| {
+        let room = &mut room.borrow_mut();
+        from_start(start, room, trace.len(), |state, room| {
+            offer_each(state, room, trace, offer, expect);
+        })
+    };
+    CALLS.compare(
         title,
         201,
         vec![
             contender(LIBRARY, || run(checker::offer)),
             contender(TWIN, || run(twin::offer)),
             contender(BY_VALUE, || run(offer_by_value)),
-            contender(SOURCE, || {
-                let mut design = source000::Checker::new(RATIO, RANKS as usize, MODE, &SETTINGS_A);
-                if !accepted {
-                    for c in before {
-                        design.insert(c.kind as usize, c.rank as usize, c.bank as usize, c.cycle);
-                    }
-                }
-                timed(trace.len(), || {
-                    for c in trace {
-                        let (kind, rank, bank) =
-                            (c.kind as usize, c.rank as usize, c.bank as usize);
-                        black_box(design.offer(kind, rank, bank, c.cycle));
-                    }
-                })
-            }),
+            contender(SOURCE, || source_offers(before, trace)),
         ],
     );
 }
@@ -240,11 +280,8 @@ fn compare_earliest(state: &ffi::Session, trace: &[Command]) {
             }
         })
     };
-    let mut design = source000::Checker::new(RATIO, RANKS as usize, MODE, &SETTINGS_A);
-    for c in trace {
-        design.insert(c.kind as usize, c.rank as usize, c.bank as usize, c.cycle);
-    }
-    compare(
+    let design = design_with(trace);
+    CALLS.compare(
         "earliest",
         201,
         vec![
@@ -290,7 +327,7 @@ fn compare_take_backs(start: &ffi::Session) {
         }
         total / 64.0
     };
-    compare(
+    CALLS.compare(
         "take-back",
         201,
         vec![
@@ -302,25 +339,22 @@ fn compare_take_backs(start: &ffi::Session) {
 }
 
 fn compare_restores(title: &str, rounds: usize, bytes: &[u8]) {
+    type Restore = fn(&[u8]) -> (ffi::Session, u64, u64);
     let records = bytes.len() / RECORD;
-    compare(
+    let run = |restore: Restore| {
+        timed(records, || {
+            let (state, number, record) = restore(black_box(bytes));
+            let restored = state.progress.records as usize;
+            assert_eq!((number, record, restored), (0, 0, records));
+            black_box(&state);
+        })
+    };
+    CALLS.compare(
         title,
         rounds,
         vec![
-            contender(LIBRARY, || {
-                timed(records, || {
-                    let (state, number, record) = checker::restore(black_box(bytes));
-                    assert_eq!((number, record, state.progress.records as usize), (0, 0, records));
-                    black_box(&state);
-                })
-            }),
-            contender(TWIN, || {
-                timed(records, || {
-                    let (state, number, record) = twin::restore(black_box(bytes));
-                    assert_eq!((number, record, state.progress.records as usize), (0, 0, records));
-                    black_box(&state);
-                })
-            }),
+            contender(LIBRARY, || run(checker::restore)),
+            contender(TWIN, || run(twin::restore)),
             contender(BYTES, || {
                 timed(records, || {
                     let words = bytes
@@ -346,7 +380,7 @@ fn compare_listings(bytes: &[u8]) {
             }
         })
     };
-    compare(
+    CALLS.compare(
         "listing, a record",
         21,
         vec![
@@ -364,28 +398,28 @@ fn peak() -> u64 {
     words.and_then(|kib| kib.parse().ok()).unwrap_or(0)
 }
 
-fn main() {
-    let full = std::env::args().nth(1).is_some_and(|word| word == "full");
-    print!("| Call | {LIBRARY}, ns |");
-    COLUMNS.iter().for_each(|c| print!(" {c}, ns | ratio |"));
-    println!("\n|---|---|{}", "---|---|".repeat(COLUMNS.len()));
-    let trace = trace();
-    compare_offers("accepted offer", &opened(), &[], &trace);
-    let mut room = vec![0; (OFFERS + 1) * RECORD];
-    let mut state = opened();
-    for c in &trace {
-        twin::offer(&mut state, &mut room, c.kind, c.rank, c.bank, c.cycle);
-    }
+/// The trace's commands once more, each a cycle too early.
+fn too_early(state: &ffi::Session, trace: &[Command]) -> Vec<Command> {
     let mut early = Vec::new();
-    for c in &trace {
-        let found = twin::earliest(&state, c.kind, c.rank, c.bank);
+    for c in trace {
+        let found = twin::earliest(state, c.kind, c.rank, c.bank);
         if found.gap != 0 {
             let cycle = found.cycle - 1;
             early.push(Command { cycle, ..*c });
         }
     }
-    compare_offers("refused offer (7)", &state, &trace, &early);
-    compare_earliest(&state, &trace);
+    early
+}
+
+fn compare_calls(trace: &[Command], full: bool) {
+    CALLS.head();
+    compare_offers("accepted offer", &opened(), &[], trace);
+    let mut room = vec![0; (OFFERS + 1) * RECORD];
+    let mut state = opened();
+    offer_each(&mut state, &mut room, trace, twin::offer, 0);
+    let early = too_early(&state, trace);
+    compare_offers("refused offer (7)", &state, trace, &early);
+    compare_earliest(&state, trace);
     compare_take_backs(&state);
     let bytes = journal(100_000, 2);
     compare_restores("restore, every second record a take-back", 31, &bytes);
@@ -401,4 +435,14 @@ fn main() {
             peak() - before
         );
     }
+    println!();
+}
+
+fn main() {
+    let word = std::env::args().nth(1).unwrap_or_default();
+    let trace = trace();
+    if word != "bursts" {
+        compare_calls(&trace, word == "full");
+    }
+    bursts::compare_bursts(&trace[..bursts::LISTED]);
 }
