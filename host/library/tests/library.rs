@@ -1,5 +1,5 @@
-//! The library's C functions held against the model: at least 5,000,000 calls, every answer and every byte of the journal; and the gaps
-//! of as many data sheets.
+//! The library's C functions held against the model: at least 5,000,000 calls, every answer and every byte of the journal; the gaps
+//! of as many data sheets; and bursts.
 //! ROSSINHIU_CALLS gives another number of calls, ROSSINHIU_SEED the first seed.
 
 use rossinhiu::checker::{self, Console, Said};
@@ -476,7 +476,7 @@ impl Checker for Library {
     }
 }
 
-/// Bursts as structs and as bytes, among openings, offers and take-backs: about as many commands as there are calls above.
+/// Bursts as structs and as bytes, among openings, offers and take-backs: about a third as many commands as there are calls above.
 #[test]
 fn bursts_as_the_model() {
     let fresh = |journal| Library {
