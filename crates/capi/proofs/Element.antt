@@ -2,6 +2,7 @@
 --     element j p      element j of an array's cell that p finds: as `sub` for a field. So `store-in ! n (element ! … (sub ! 1 refl (whole !)))` stores to `x.1[j]`
 --     map-set          the machine values of a list with one element set
 --     set-is           an array with one element set is one of its type
+--     alone-is         an array that is a field of a struct is one of its type by itself
 --     lowered-is       a value is one of its type at the machine value that is written out
 -- Assumes `Given` (of it `at-elems` and `elems-at`).
 use mathlib.Core.Path.{_≡_, refl, sym, _∙_, ap, subst}
@@ -15,13 +16,13 @@ use mir.Syntax.{Ty, tyArray}
 use mir.Val.{Val, vstruct, ofList}
 use prog.Memory.{size}
 use base.Logic.{SProp, ent, sep, wand, all, allE, apply∗}
-use base.Fml.{Share, fat}
+use base.Fml.{Share, Fml, fat}
 use prog.Model.{elems}
 use prog.Wp.{Heap}
 use ghost.Atoms.{Atoms}
 use types.Kit.{Given, Item, ‵, raw, _⊛_, mean, _$_, _∵_, !, qed, move, use1, use2, split, assume, frame, each as for-each, done}
 use types.Part.{Part}
-use denote.Array.{Array, arrayVal, each}
+use denote.Array.{Array, arrayVal, each, inArray}
 use denote.Index.{place}
 use denote.RattleType.{RattleType}
 use denote.Shadow.{shadow}
@@ -48,6 +49,17 @@ module _ (F : Field) (y : F .Value) (w : Val) (one : Is (F .row) (F .into y) (w 
 
   pub set-is : (n : ℕ) (xs : List (F .Value)) (j : ℕ) (vs : List Val) (p : Is (Array (F .row) n) (map (F .into) xs) vs) → Is (Array (F .row) n) (map (F .into) (set xs j y)) (arrayVal (set (p .0) j w) ∷ [])
   set-is n xs j vs p = (set (p .0) j w, ((refl, length-map (set xs j y) (F .into) ∙ length-set xs j y ∙ sym (length-map xs (F .into)) ∙ p .1 .0 .1), each-set xs (p .0) j (p .1 .1)))
+
+-- an array that is a field of a struct is one by itself
+module _ (F : Field) (own : F .Value → List Val → Fml) (one : (x : F .Value) (vs : List Val) → Is (F .row) (F .into x) vs → shadow (own x vs)) where
+  each-alone : (xs : List (F .Value)) (us : List Val) → shadow (each (F .row .Denot) (F .row .own) (map (F .into) xs) us) → shadow (each (F .Value) own xs us)
+  each-alone [] [] s = s
+  each-alone [] (u ∷ us) s = absurd s
+  each-alone (x ∷ xs) [] s = absurd s
+  each-alone (x ∷ xs) (u ∷ us) s = (one x (u ∷ []) (s .0), each-alone xs us (s .1))
+
+  pub alone-is : (n : ℕ) (xs : List (F .Value)) (vs : List Val) → Is (Array (F .row) n) (map (F .into) xs) vs → shadow (inArray (F .Value) own n xs vs)
+  alone-is n xs vs p = (p .0, ((p .1 .0 .0, sym (length-map xs (F .into)) ∙ p .1 .0 .1), each-alone xs (p .0) (p .1 .1)))
 
 -- ---- an element's cell
 module _ {M : Type 1} (𝓤 : URA M) (H : Heap 𝓤) (A : Atoms 𝓤) (W : Given 𝓤 H A) (q : Share) (τ : Ty) (b : ℕ) (d : Val) where

@@ -23,7 +23,10 @@ pub extern "C" fn rossinhiu_offer_all_2(
     let mut i = 0;
     while i < offers.len() {
         let offer = offers[i];
-        let one = take_one(session, offer, most);
+        let last = session.last;
+        let terms = session.terms;
+        let progress = session.progress;
+        let one = take_one(last, terms, progress, offer, most);
         if one.answer.number != Answer::ACCEPTED {
             return Burst {
                 session,
@@ -33,8 +36,8 @@ pub extern "C" fn rossinhiu_offer_all_2(
         }
         write_command(
             journal,
-            session.progress.records,
-            session.terms.number,
+            progress.records,
+            terms.number,
             one.command,
             offer.cycle,
         );

@@ -1,5 +1,6 @@
 -- `offer_pieces` meets its contract: command after command, until one is refused or none is left.
 use mathlib.Core.Path.{_≡_, refl, sym, _∙_, ap}
+use mathlib.Core.List.{[]}
 use Prim.Native.Nat.{_+_, _-_}
 use native.Mathlib.Omega.{arith}
 use lib.ListN.{length}
@@ -51,56 +52,56 @@ take-one-requires : tie.Need-take-one-requires Inv-loop μ-loop
 take-one-requires c κs = search needs
 
 same-length : tie.Need-same-length Inv-loop μ-loop
-same-length c = c .before .before .before .before .before .before .before .loop .inv .1
+same-length c = c .before .before .before .before .before .before .before .before .before .before .loop .inv .1
 
 returns : tie.Need-returns Inv-loop μ-loop
 returns c =
-    let a = c .before .before .before .before .before .before .before .before .before .before .before .args in
-    let l = c .before .before .before .before .before .before .before .loop in
-    let more = c .before .before .before .before .before .before .loop-test .taken in
+    let a = c .before .before .before .before .before .before .before .before .before .before .before .before .before .before .args in
+    let l = c .before .before .before .before .before .before .before .before .before .before .loop in
+    let more = c .before .before .before .before .before .before .before .before .before .loop-test .taken in
     let p = a .pieces .now in
-    let asked = c .before .before .before .before .read-offer in
+    let asked = c .before .before .before .before .before .before .before .read-offer in
     let is : asked .result ≡ offerFrom (piece (l .i) p) = rw (piece-is (l .i) p) at (asked .ensures) in
-    let most = c .before .before .before .before .before .before .before .before .room-of .ensures ∙ ap roomOf (sym (l .inv .1)) in
-    let took = rw most at (c .before .before .before .take-one .ensures) in
+    let most = c .before .before .before .before .before .before .before .before .before .before .before .room-of .ensures ∙ ap roomOf (sym (l .inv .1)) in
+    let took = rw most at (c .before .before .before .take-one .ensures (l .session .entries)) in
     let here = ap (verdictIn (over (l .session) (l .journal))) (sym is) in
     bursts (bursting-refused (a .t1) (a .journal .now) (offersFrom p) (l .session) (l .journal) (l .i) (offerFrom (piece (l .i) p)) (leftFrom p (l .i + 1)) (rw (left-one p (l .i) more) at (l .inv .0)) _ (here ∙ took .refuses (c .if1 .taken)))
 
 write-command-requires : tie.Need-write-command-requires Inv-loop μ-loop
 write-command-requires c κs =
-    let l = c .before .before .before .before .before .before .before .before .before .before .loop in
-    let most = c .before .before .before .before .before .before .before .before .before .before .before .room-of .ensures ∙ ap roomOf (sym (l .inv .1)) in
-    let took = rw most at (c .before .before .before .before .before .before .take-one .ensures) in
+    let l = c .before .before .before .before .before .before .before .before .before .before .before .before .before .loop in
+    let most = c .before .before .before .before .before .before .before .before .before .before .before .before .before .before .room-of .ensures ∙ ap roomOf (sym (l .inv .1)) in
+    let took = rw most at (c .before .before .before .before .before .before .take-one .ensures (l .session .entries)) in
     omega (arith, took .free (c .before .before .before .if1 .left))
 
 mul-entry : tie.Need-mul-entry Inv-loop μ-loop
-mul-entry c = omega (arith, c .before .before .before .before .before .before .before .before .before .before .take-one .ensures .at)
+mul-entry c = omega (arith, (c .before .before .before .before .before .before .before .before .before .before .take-one .ensures []) .at)
 
 element-set-from-entry : tie.Need-element-set-from-entry Inv-loop μ-loop
-element-set-from-entry c = omega (arith, c .before .before .before .before .before .before .before .before .before .before .take-one .ensures .at)
+element-set-from-entry c = omega (arith, (c .before .before .before .before .before .before .before .before .before .before .take-one .ensures []) .at)
 
 mul-stamp : tie.Need-mul-stamp Inv-loop μ-loop
-mul-stamp c = omega (arith, c .before .before .before .before .before .before .before .before .before .before .before .take-one .ensures .slot)
+mul-stamp c = omega (arith, (c .before .before .before .before .before .before .before .before .before .before .before .take-one .ensures []) .slot)
 
 element-set-from-stamp : tie.Need-element-set-from-stamp Inv-loop μ-loop
-element-set-from-stamp c = omega (arith, c .before .before .before .before .before .before .before .before .before .before .before .take-one .ensures .slot)
+element-set-from-stamp c = omega (arith, (c .before .before .before .before .before .before .before .before .before .before .before .take-one .ensures []) .slot)
 
 add-i : tie.Need-add-i Inv-loop μ-loop
-add-i c = omega (arith, c .before .before .before .before .before .before .before .before .before .before .before .before .before .before .before .loop-test .taken, c .before .before .before .before .before .before .before .before .before .before .before .before .before .before .before .before .before .before .before .before .good .1 .1 .0)
+add-i c = omega (arith, c .before .before .before .before .before .before .before .before .before .before .before .before .before .before .before .before .before .before .loop-test .taken, c .before .before .before .before .before .before .before .before .before .before .before .before .before .before .before .before .before .before .before .before .before .before .before .good .1 .1 .0)
 
 loop-less : tie.Need-loop-less Inv-loop μ-loop
-loop-less c = omega (arith, c .before .before .before .before .before .before .before .before .before .before .before .before .before .before .before .loop-test .taken)
+loop-less c = omega (arith, c .before .before .before .before .before .before .before .before .before .before .before .before .before .before .before .before .before .before .loop-test .taken)
 
 loop-again : tie.Need-loop-again Inv-loop μ-loop
 loop-again c =
-    let a = c .before .before .before .before .before .before .before .before .before .before .before .before .before .before .before .before .before .before .before .before .args in
-    let l = c .before .before .before .before .before .before .before .before .before .before .before .before .before .before .before .before .loop in
-    let more = c .before .before .before .before .before .before .before .before .before .before .before .before .before .before .before .loop-test .taken in
+    let a = c .before .before .before .before .before .before .before .before .before .before .before .before .before .before .before .before .before .before .before .before .before .before .before .args in
+    let l = c .before .before .before .before .before .before .before .before .before .before .before .before .before .before .before .before .before .before .before .loop in
+    let more = c .before .before .before .before .before .before .before .before .before .before .before .before .before .before .before .before .before .before .loop-test .taken in
     let p = a .pieces .now in
-    let asked = c .before .before .before .before .before .before .before .before .before .before .before .before .before .read-offer in
+    let asked = c .before .before .before .before .before .before .before .before .before .before .before .before .before .before .before .before .read-offer in
     let is : asked .result ≡ offerFrom (piece (l .i) p) = rw (piece-is (l .i) p) at (asked .ensures) in
-    let most = c .before .before .before .before .before .before .before .before .before .before .before .before .before .before .before .before .before .room-of .ensures ∙ ap roomOf (sym (l .inv .1)) in
-    let took = rw most at (c .before .before .before .before .before .before .before .before .before .before .before .before .take-one .ensures) in
+    let most = c .before .before .before .before .before .before .before .before .before .before .before .before .before .before .before .before .before .before .before .before .room-of .ensures ∙ ap roomOf (sym (l .inv .1)) in
+    let took = rw most at (c .before .before .before .before .before .before .before .before .before .before .before .before .take-one .ensures (l .session .entries)) in
     let here = ap (verdictIn (over (l .session) (l .journal))) (sym is) in
     let passed = c .before .before .before .before .before .before .before .before .before .if1 .left in
     let wrote = c .before .before .before .before .before .write-command in

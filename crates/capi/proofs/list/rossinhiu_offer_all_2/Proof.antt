@@ -35,6 +35,7 @@ use denote.Laws.{Is, shows}
 use denote.Memory.{pointee}
 use denote.Plain.{uint-makes, uint-lawful, nothing-lawful}
 use denote.Builtin.{u8, u32, u64, usize, unit}
+use denote.Array.{Array, array-lawful, array-makes}
 use denote.Ref.{RefT}
 use denote.Slice.{sliceTy, sliceVal, MutSlice, ShrSlice, Room, slice-vals, mut-slice-tells, shr-slice-tells, shr-slice-copy}
 use denote.Index.{place-is, elem-out, elem-back, looks-slice, shuts-slice}
@@ -56,6 +57,7 @@ use Rattle.timing.proofs.rules.Command as C
 use Rattle.timing.proofs.rules.Command.Laws as C′
 use Rattle.timing.proofs.clocks.ControllerCycles as Y
 use Rattle.timing.proofs.clocks.ControllerCycles.Laws as Y′
+use Rattle.session.specs.declared.stamps.Stamp.{Stamp}
 use Rattle.session.specs.declared.state.Session.{Session}
 use Rattle.session.specs.declared.state.Progress.{Progress}
 use Rattle.session.specs.declared.state.Terms.{Terms}
@@ -65,6 +67,7 @@ use Rattle.session.proofs.state.Entry as E
 use Rattle.session.proofs.state.Entry.Laws as E′
 use Rattle.session.proofs.state.Progress as P
 use Rattle.session.proofs.state.Progress.Laws as P′
+use Rattle.session.proofs.state.Terms as U
 use Rattle.session.proofs.state.Terms.Laws as U′
 use Rattle.session.proofs.stamps.Stamp as Z
 use Rattle.session.proofs.stamps.Stamp.Laws as Z′
@@ -73,7 +76,7 @@ use Rattle.journal.proofs.records.Offer as O
 use Rattle.journal.proofs.records.Offer.Laws as O′
 use Rattle.judging.proofs.answers.Answer as R
 use Rattle.judging.proofs.answers.Answer.Laws as R′
-use Rattle.bursts.specs.Taken.{Takes}
+use Rattle.bursts.specs.Taken.{Takes, TakesAny}
 use Rattle.bursts.specs.declared.taken.Taken.{Taken}
 use Rattle.bursts.specs.declared.pieces.Burst.{Burst}
 use Rattle.capi.proofs.Again.{LentAgain, lends-again, comes-back}
@@ -100,7 +103,7 @@ use Rattle.capi.proofs.list.rossinhiu_offer_all_2 as offer-all
 use Rattle.capi.proofs.list.rossinhiu_offer_all_2.Statement as stated
 use Rattle.capi.proofs.list.rossinhiu_offer_all_2.Code as code
 use Rattle.capi.proofs.list.rossinhiu_offer_all_2.Code.Mir as mir-of
-use Rattle.capi.proofs.list.rossinhiu_offer_all_2.Proof.Turns.{IsSession, IsOffer, IsTaken, IsBurst, cycle-is, answer-is, command-is, stamp-is, entry-is, next-is, slots-are, entries-are, records-fit, number-fits, burst-is, none-refused, none-is, no-offer, Turn, Nearer, Nearer-wf, starts, Ends, none-left, offer, one-refused, is-refused, is-accepted, has-room, Written, next}
+use Rattle.capi.proofs.list.rossinhiu_offer_all_2.Proof.Turns.{IsSession, IsOffer, IsTaken, IsBurst, cycle-is, answer-is, command-is, stamp-is, entry-is, next-is, slots-are, entries-are, lastVal, last-is, progress-is, terms-is, records-fit, number-fits, burst-is, none-refused, none-is, no-offer, Turn, Nearer, Nearer-wf, starts, Ends, none-left, offer, one-refused, is-refused, is-accepted, has-room, Written, next}
 
 abbrev stayed : Stays (offer-all.ended .signature .params) (offer-all.ended .kept)
 stayed = (stay-none (λ _. S.the-row) yes, (stay-slice (0 ∷ []) tt (slot (λ _. u8)), (stay-none-slice (1 ∷ []) tt (slot (λ _. O.the-row)) yes, tt)))
@@ -184,13 +187,19 @@ module _ {M : Type 1} (𝓤 : URA M) (H : Heap 𝓤) (A : Atoms 𝓤) (W : Given
     abbrev read : Offer
     read = offer s₀ lent os t more
 
+    abbrev handed : List Stamp × (Terms × (Progress × (Offer × (ℕ × Unit {0}))))
+    handed = (t .session .last, (t .session .terms, (t .session .progress, (read, (most, tt)))))
+
     abbrev to-take : Take 𝓤 H A at-mem run .Ghost
-    to-take = ((tt, tt, tt, (t .session, (read, (most, tt))), (S′.lowered (t .session) ∷ [], (O′.lowered read ∷ [], (vint w64 most ∷ [], tt)))), tt)
+    to-take = ((tt, tt, tt, handed, (lastVal (t .session .last) ∷ [], (U′.lowered (t .session .terms) ∷ [], (P′.lowered (t .session .progress) ∷ [], (O′.lowered read ∷ [], (vint w64 most ∷ [], tt)))))), tt)
 
     goes-take : IsOffer read → ent 𝓤 (emp 𝓤) (Take 𝓤 H A at-mem run .pre to-take)
     goes-take g =
         qed W [] ∵ nothing ! $ nothing ! $ owned ! u64 (Is u64) (uint-makes 𝓤 H A W w64) most _ (refl, most-fits) $ fjoin ! $ owned ! O.the-row (Is O.the-row) (LL.makes O.the-type O′.the-plain 𝓤 H A) read _ g $ fjoin ! $
-        owned ! S.the-row (Is S.the-row) (LL.makes S.the-type S′.the-plain 𝓤 H A) (t .session) _ (t .is) $ fjoin ! $ nothing ! $ join ! $ done !
+        owned ! P.the-row (Is P.the-row) (LL.makes P.the-type P′.the-plain 𝓤 H A) (t .session .progress) _ (progress-is (t .session) (t .is)) $ fjoin ! $
+        owned ! U.the-row (Is U.the-row) (LL.makes U.the-type U′.the-plain 𝓤 H A) (t .session .terms) _ (terms-is (t .session) (t .is)) $ fjoin ! $
+        owned ! (Array Z.the-row 224) (Is (Array Z.the-row 224)) (array-makes 𝓤 H A W Z.the-row (LL.makes Z.the-type Z′.the-plain 𝓤 H A) 224) (t .session .last) _ (last-is (t .session) (t .is)) $ fjoin ! $
+        nothing ! $ join ! $ done !
 
     module _ (one : Taken) (took : Takes (t .session) read most one) (taken : one .answer .number ≡ 0) where
       abbrev records : ℕ
@@ -243,17 +252,20 @@ module _ {M : Type 1} (𝓤 : URA M) (H : Heap 𝓤) (A : Atoms 𝓤) (W : Given
       abbrev ref : Ty
       ref = tyRef erased mut (tyInt w8)
 
+      abbrev lastTy : Ty
+      lastTy = tyArray Z′.mir 224
+
       abbrev journalTy : Ty
       journalTy = sliceTy (tyRef (named 0) mut (tyInt w8))
 
       abbrev offersTy : Ty
       offersTy = sliceTy (tyRef (named 1) imm (pointee (O.the-row .written)))
 
-      -- the locals: the result, the parameters, the state, the room, i, the command, what `take_one` gave, and what the statements need
+      -- the locals: the result, the parameters, the state, the room, i, the command, what judging reads of the state, what `take_one` gave, and what the statements need
       abbrev En : Env 𝓤 H
-      En = (B′.mir, l₀) ∷ (S′.mir, l₁) ∷ (journalTy, l₂) ∷ (offersTy, l₃) ∷ (S′.mir, l₄) ∷ (word, l₅) ∷ (word, l₆) ∷ (O′.mir, l₇) ∷ (K′.mir, l₈) ∷ (word, l₉) ∷
-          (word, l₁₀) ∷ (tyBool, l₁₁) ∷ (tyPtr, l₁₂) ∷ (O′.mir, l₁₃) ∷ (S′.mir, l₁₄) ∷ (S′.mir, l₁₅) ∷ (word, l₁₆) ∷ (tyUnit, l₁₇) ∷ (ref, l₁₈) ∷ (sliceTy ref, l₁₉) ∷
-          (word, l₂₀) ∷ (tyInt w32, l₂₁) ∷ (tyPtr, l₂₂) ∷ (tyPtr, l₂₃) ∷ (tyPtr, l₂₄) ∷ (tyPtr, l₂₅) ∷ (S′.mir, l₂₆) ∷ (word, l₂₇) ∷ (Y′.mir, l₂₈) ∷ (R′.mir, l₂₉) ∷ []
+      En = (B′.mir, l₀) ∷ (S′.mir, l₁) ∷ (journalTy, l₂) ∷ (offersTy, l₃) ∷ (S′.mir, l₄) ∷ (word, l₅) ∷ (word, l₆) ∷ (O′.mir, l₇) ∷ (lastTy, l₈) ∷ (U′.mir, l₉) ∷
+          (P′.mir, l₁₀) ∷ (K′.mir, l₁₁) ∷ (word, l₁₂) ∷ (word, l₁₃) ∷ (tyBool, l₁₄) ∷ (tyPtr, l₁₅) ∷ (O′.mir, l₁₆) ∷ (S′.mir, l₁₇) ∷ (word, l₁₈) ∷ (tyUnit, l₁₉) ∷
+          (ref, l₂₀) ∷ (sliceTy ref, l₂₁) ∷ (tyPtr, l₂₂) ∷ (tyPtr, l₂₃) ∷ (tyPtr, l₂₄) ∷ (tyPtr, l₂₅) ∷ (S′.mir, l₂₆) ∷ (word, l₂₇) ∷ (Y′.mir, l₂₈) ∷ (R′.mir, l₂₉) ∷ []
 
       -- local k stands at 62 - 2 · k, with four items in front; what is put in front shifts it
       abbrev At : Stand → List (Item 𝓤)
@@ -276,16 +288,16 @@ module _ {M : Type 1} (𝓤 : URA M) (H : Heap 𝓤) (A : Atoms 𝓤) (W : Given
       ends : (t : Stand) → ltb (t .i) (length os) ≡ false → Sq W (At t) (runs Cs Λ En mir-of.turn-1 (anyQ (Turned t)))
       unfolding afterTurn
       ends t over =
-          sets ! (of-opd ! (field-of ! 56 (tyInt w64) 8 refl refl refl)) (init ! 42 refl (tt, record { fits = room′ .0 })) $
-          sets ! (bin ! (var ! 50 refl) (var ! 42 refl) tt) (init ! 40 refl (tt, tt)) $
-          rewrite ! 40 (λ (z : Bool). ‵ (fat fullShare tyBool l₁₁ 0 (vbool z))) over refl $ leaves-loop ! (var ! 40 refl) $ exec ! Cs Λ En mir-of.t-6 (atRet En Post) $
+          sets ! (of-opd ! (field-of ! 56 (tyInt w64) 8 refl refl refl)) (init ! 36 refl (tt, record { fits = room′ .0 })) $
+          sets ! (bin ! (var ! 50 refl) (var ! 36 refl) tt) (init ! 34 refl (tt, tt)) $
+          rewrite ! 34 (λ (z : Bool). ‵ (fat fullShare tyBool l₁₄ 0 (vbool z))) over refl $ leaves-loop ! (var ! 34 refl) $ exec ! Cs Λ En mir-of.t-6 (atRet En Post) $
           sets ! (of-opd ! (var ! 54 refl)) (init ! 10 refl (LL.lawful S.the-type S′.the-laws 𝓤 H A W .typed (t .session) _ (t .is) .0)) $
           sets ! (of-opd ! (var ! 50 refl)) (init ! 8 refl (tt, record { fits = fits })) $
           sets ! (agg ! (and-then ! (lit ! tt) (no-more !))) (init ! 6 refl (tt, (record { fits = lit< tt }, tt))) $
           sets ! (agg ! (and-then ! (lit ! tt) (and-then ! (var ! 6 refl) (and-then ! (lit ! tt) (no-more !))))) (init ! 4 refl (LL.lawful R.the-type R′.the-laws 𝓤 H A W .typed none-refused _ none-is .0)) $
           sets ! (agg ! (and-then ! (var ! 10 refl) (and-then ! (var ! 8 refl) (and-then ! (var ! 4 refl) (no-more !)))))
           (init ! 62 refl (LL.lawful B.the-type B′.the-laws 𝓤 H A W .typed result _ is .0)) $
-          returns ! (look ! 62 refl) $ forget ! 62 refl $ forget ! 60 refl $ forget ! 58 refl $ forget ! 56 refl $ forget ! 54 refl $ forget ! 52 refl $ forget ! 50 refl $ forget ! 42 refl $ forget ! 40 refl $
+          returns ! (look ! 62 refl) $ forget ! 62 refl $ forget ! 60 refl $ forget ! 58 refl $ forget ! 56 refl $ forget ! 54 refl $ forget ! 52 refl $ forget ! 50 refl $ forget ! 36 refl $ forget ! 34 refl $
           forget ! 10 refl $ forget ! 8 refl $ forget ! 6 refl $ forget ! 4 refl $
           gone result (t .journal) (none-left s₀ lent os t (ltb-false (t .i) (length os) over)) (t .same) is
         where
@@ -303,24 +315,24 @@ module _ {M : Type 1} (𝓤 : URA M) (H : Heap 𝓤) (A : Atoms 𝓤) (W : Given
         abbrev Took : List (Item 𝓤)
         Took = ‵ (flft κ′ q′) ∷ ‵ Offers ∷ ‵ (Journal (t .journal)) ∷ ‵ (flft κ q)
             ∷ lies 𝓤 H En (none ∷ some (S′.lowered s₀) ∷ some m ∷ some m′ ∷ some (S′.lowered (t .session)) ∷ some (vint w64 most) ∷ some (vint w64 (t .i))
-            ∷ some (O′.lowered (read t more)) ∷ some (K′.lowered one) ∷ none ∷ none ∷ some (vbool (not (eqb (one .answer .number) 0))) ∷ [])
+            ∷ some (O′.lowered (read t more)) ∷ none ∷ some (U′.lowered (t .session .terms)) ∷ some (P′.lowered (t .session .progress)) ∷ some (K′.lowered one) ∷ none ∷ none ∷ some (vbool (not (eqb (one .answer .number) 0))) ∷ [])
 
         abbrev Rest : Body
-        Rest = behind 11 mir-of.turn-1
+        Rest = behind 13 mir-of.turn-1
 
         fits : t .i < 2 ^ 64
         fits = omega (arith, more, room′ .0)
 
         -- refused: the function returns
-        refuses : T (not (eqb (one .answer .number) 0)) → Sq W Took (runs Cs Λ En (then-of (behind 10 mir-of.turn-1)) (anyQ (afterSeq 𝓤 H (Wp 𝓤 H Cs Λ En Rest (Turned t)) (Turned t))))
+        refuses : T (not (eqb (one .answer .number) 0)) → Sq W Took (runs Cs Λ En (then-of (behind 12 mir-of.turn-1)) (anyQ (afterSeq 𝓤 H (Wp 𝓤 H Cs Λ En Rest (Turned t)) (Turned t))))
         unfolding afterTurn
         refuses bad =
-            sets ! (of-opd ! (var ! 54 refl)) (init ! 32 refl (LL.lawful S.the-type S′.the-laws 𝓤 H A W .typed (t .session) _ (t .is) .0)) $
-            sets ! (of-opd ! (var ! 50 refl)) (init ! 30 refl (tt, record { fits = fits })) $
-            sets ! (agg ! (and-then ! (var ! 32 refl) (and-then ! (var ! 30 refl) (and-then ! (field-of ! 46 R′.mir 0 refl refl refl) (no-more !)))))
+            sets ! (of-opd ! (var ! 54 refl)) (init ! 28 refl (LL.lawful S.the-type S′.the-laws 𝓤 H A W .typed (t .session) _ (t .is) .0)) $
+            sets ! (of-opd ! (var ! 50 refl)) (init ! 26 refl (tt, record { fits = fits })) $
+            sets ! (agg ! (and-then ! (var ! 28 refl) (and-then ! (var ! 26 refl) (and-then ! (field-of ! 40 R′.mir 0 refl refl refl) (no-more !)))))
             (init ! 62 refl (LL.lawful B.the-type B′.the-laws 𝓤 H A W .typed refusal _ is .0)) $
-            returns-within ! Post refl (look ! 62 refl) $ forget ! 62 refl $ forget ! 60 refl $ forget ! 58 refl $ forget ! 56 refl $ forget ! 54 refl $ forget ! 52 refl $ forget ! 50 refl $ forget ! 48 refl $ forget ! 46 refl $
-            forget ! 40 refl $ forget ! 32 refl $ forget ! 30 refl $ move ! (2 ∷ 3 ∷ 1 ∷ 0 ∷ []) $
+            returns-within ! Post refl (look ! 62 refl) $ forget ! 62 refl $ forget ! 60 refl $ forget ! 58 refl $ forget ! 56 refl $ forget ! 54 refl $ forget ! 52 refl $ forget ! 50 refl $ forget ! 48 refl $ forget ! 44 refl $
+            forget ! 42 refl $ forget ! 40 refl $ forget ! 34 refl $ forget ! 28 refl $ forget ! 26 refl $ move ! (2 ∷ 3 ∷ 1 ∷ 0 ∷ []) $
             gone refusal (t .journal) (one-refused s₀ lent os t more one took (is-refused one bad)) (t .same) is
           where
             refusal : Burst
@@ -334,18 +346,16 @@ module _ {M : Type 1} (𝓤 : URA M) (H : Heap 𝓤) (A : Atoms 𝓤) (W : Given
         unfolding afterTurn
         accepts taken =
             -- the journal is lent again for a lifetime ν of the call
-            sets ! (addr ! (from ! (fld ! refl (hop ! (look-in ! 58 (sub ! 0 refl (whole !))) (stop !))))) (init ! 26 refl (tt, tt)) $
-            sets ! (agg ! (and-then ! (var ! 26 refl) (and-then ! (field-of ! 58 (tyInt w64) 8 refl refl refl) (no-more !)))) (init ! 24 refl (tt, (tt, (record { fits = room .0 }, tt)))) $
-            sets ! (of-opd ! (load ! (from ! (into ! P′.mir 3840 refl (into ! word 96 refl (stop !)))) (look-in ! 54 (within ! 5 word 96 refl (within ! 2 P′.mir 3840 refl (whole !)))))) (init ! 22 refl (tt, record { fits = records-fit (t .session) (t .is) })) $
-            sets ! (of-opd ! (load ! (from ! (into ! U′.mir 3944 refl (into ! (tyInt w32) 168 refl (stop !)))) (look-in ! 54 (within ! 2 (tyInt w32) 168 refl (within ! 3 U′.mir 3944 refl (whole !)))))) (init ! 20 refl (tt, record { fits = number-fits (t .session) (t .is) })) $
+            sets ! (addr ! (from ! (fld ! refl (hop ! (look-in ! 58 (sub ! 0 refl (whole !))) (stop !))))) (init ! 22 refl (tt, tt)) $
+            sets ! (agg ! (and-then ! (var ! 22 refl) (and-then ! (field-of ! 58 (tyInt w64) 8 refl refl refl) (no-more !)))) (init ! 20 refl (tt, (tt, (record { fits = room .0 }, tt)))) $
             move ! (2 ∷ 3 ∷ []) $ lft-new ! tt (λ ν. move ! (1 ∷ 2 ∷ []) $
             use2 W (later (some-of (λ (δ : GName). ‵ (MutSlice (named 0) (ν ∷ []) u8 .own (x δ (t .journal)) (m ∷ [])) ⊛ ‵ (LentAgain u8 κ (ν ∷ []) q γ b o δ (t .journal)))))
             (lends-again u8 κ (ν ∷ []) q γ b o 𝓤 H A W (named 0) (named 0) (t .journal) (length lent) (t .same)) $ await ! tt $ pick ! (λ δ. split ! $
             move ! (2 ∷ 0 ∷ []) $ use2 W (raw (Write 𝓤 H A at-mem run .pre (to-write t more one took taken ν δ))) (goes-write t more one took taken g k ν δ) $
             -- [what `write_command` asks; what is lent; the token of the commands; Offers; _29; …]
             calls-at ! fm (Write 𝓤 H A at-mem run) writes (to-write t more one took taken ν δ)
-            (and-then ! (var ! 24 refl) (and-then ! (var ! 22 refl) (and-then ! (var ! 20 refl)
-            (and-then ! (field-of ! 46 C′.mir 24 refl refl refl) (and-then ! (field-of ! 48 Y′.mir 24 refl refl refl) (no-more !)))))) (λ v.
+            (and-then ! (var ! 20 refl) (and-then ! (field-of ! 42 word 96 refl refl refl) (and-then ! (field-of ! 44 (tyInt w32) 168 refl refl refl)
+            (and-then ! (field-of ! 40 C′.mir 24 refl refl refl) (and-then ! (field-of ! 48 Y′.mir 24 refl refl refl) (no-more !)))))) (λ v.
             use1 W (later (some-of (λ (r : Unit {0}). ((‵ (flft (ν ∷ []) fullShare) ⊛ ‵ ftrue) ⊛ ‵ (unit .own r (v ∷ [])))
             ⊛ raw (ensured 𝓤 H A write-command.ended (write-command.clauses 𝓤 H A at-mem run) (ν ∷ [], tt) (args t more one took taken δ) tt r)))) (id⊢ 𝓤 _) $ await ! tt $ pick ! (λ r.
             -- what `write_command` ensures, at some last bytes
@@ -353,32 +363,32 @@ module _ {M : Type 1} (𝓤 : URA M) (H : Heap 𝓤) (A : Atoms 𝓤) (W : Given
             ⊛ raw (fact 𝓤 (Written s₀ lent os t more one took (zs .0))))) (id⊢ 𝓤 _) $ pick ! (λ zs. split ! $ move ! (1 ∷ []) $ heard ! (Written s₀ lent os t more one took (zs .0)) (λ e.
             fsplit ! $ fsplit ! $ move ! (1 ∷ []) $ feqL ! (λ l.
             -- [the last bytes; …; the tokens and the result; what is lent; the token of the commands; Offers; _29; …]
-            move ! (2 ∷ []) $ split ! $ move ! (1 ∷ []) $ feqL ! (λ u. land ! (from ! (stop !)) (init ! 30 refl (nothing-lawful 𝓤 H A W .typed r _ u .0)) $
+            move ! (2 ∷ []) $ split ! $ move ! (1 ∷ []) $ feqL ! (λ u. land ! (from ! (stop !)) (init ! 26 refl (nothing-lawful 𝓤 H A W .typed r _ u .0)) $
             -- the lifetime is ended, and the journal comes back at those bytes
             split ! $ lft-end ! tt $ move ! (0 ∷ 4 ∷ 2 ∷ []) $
             use3 W (later (‵ (Journal (zs .0)) ⊛ ‵ (flft κ q))) (comes-back u8 κ (ν ∷ []) q γ b o 𝓤 H A W (named 0) (named 0) (t .journal) (length lent) (t .same) δ (zs .0) room l) $ await ! tt $ split ! $
             move ! (2 ∷ 3 ∷ []) $ drop ! $ drop ! $
             -- [Journal; its token; the token of the commands; Offers; _29; …]: the entry is stored
-            sets ! (bin ! (field-of ! 46 word 48 refl refl refl) (lit ! tt) (record { fits = at-far })) (init ! 42 refl (tt, record { fits = at-far })) $
+            sets ! (bin ! (field-of ! 40 word 48 refl refl refl) (lit ! tt) (record { fits = at-far })) (init ! 36 refl (tt, record { fits = at-far })) $
             sets ! (addr ! (from ! (into ! (tyArray E′.mir 64) 1792 refl (stop !)))) (init ! 18 refl (tt, tt)) $
-            sets ! (bin ! (var ! 18 refl) (var ! 42 refl) tt) (init ! 16 refl (tt, tt)) $
+            sets ! (bin ! (var ! 18 refl) (var ! 36 refl) tt) (init ! 16 refl (tt, tt)) $
             rewrite ! 16 (λ (p : ℕ). ‵ (fat fullShare tyPtr l₂₃ 0 (vptr l₄ p))) (sym (place-is 32 1792 (one .at))) refl $
-            assigns ! (of-opd ! (field-of ! 46 E′.mir 56 refl refl refl)) (from ! (hop ! (look ! 16 refl) (stop !)))
+            assigns ! (of-opd ! (field-of ! 40 E′.mir 56 refl refl refl)) (from ! (hop ! (look ! 16 refl) (stop !)))
             (store-in ! 54 (element ! (map E′.lowered (t .session .entries)) (one .at) vunit (entries-are (t .session) (t .is)) at-within (within ! 1 (tyArray E′.mir 64) 1792 refl (whole !))) (LL.lawful E.the-type E′.the-laws 𝓤 H A W .typed (one .entry) _ (entry-is one k) .0)) $
             rewrite ! 54 (λ (es : List Val). ‵ (fat fullShare S′.mir l₄ 0 (state (map Z′.lowered (t .session .last)) es (t .session .progress) (t .session .terms)))) (map-set E′.lowered (t .session .entries) (one .at) (one .entry)) refl $
             -- the stamp
-            sets ! (bin ! (field-of ! 46 word 32 refl refl refl) (lit ! tt) (record { fits = slot-far })) (store ! 42 refl (tt, record { fits = slot-far })) $
-            sets ! (addr ! (from ! (into ! (tyArray Z′.mir 224) 0 refl (stop !)))) (init ! 14 refl (tt, tt)) $
-            sets ! (bin ! (var ! 14 refl) (var ! 42 refl) tt) (init ! 12 refl (tt, tt)) $
+            sets ! (bin ! (field-of ! 40 word 32 refl refl refl) (lit ! tt) (record { fits = slot-far })) (store ! 36 refl (tt, record { fits = slot-far })) $
+            sets ! (addr ! (from ! (into ! lastTy 0 refl (stop !)))) (init ! 14 refl (tt, tt)) $
+            sets ! (bin ! (var ! 14 refl) (var ! 36 refl) tt) (init ! 12 refl (tt, tt)) $
             rewrite ! 12 (λ (p : ℕ). ‵ (fat fullShare tyPtr l₂₅ 0 (vptr l₄ p))) (sym (place-is 8 0 (one .slot))) refl $
-            assigns ! (of-opd ! (field-of ! 46 Z′.mir 40 refl refl refl)) (from ! (hop ! (look ! 12 refl) (stop !)))
-            (store-in ! 54 (element ! (map Z′.lowered (t .session .last)) (one .slot) vunit (slots-are (t .session) (t .is)) slot-within (within ! 0 (tyArray Z′.mir 224) 0 refl (whole !))) (LL.lawful Z.the-type Z′.the-laws 𝓤 H A W .typed (one .stamp) _ (stamp-is one k) .0)) $
+            assigns ! (of-opd ! (field-of ! 40 Z′.mir 40 refl refl refl)) (from ! (hop ! (look ! 12 refl) (stop !)))
+            (store-in ! 54 (element ! (map Z′.lowered (t .session .last)) (one .slot) vunit (slots-are (t .session) (t .is)) slot-within (within ! 0 lastTy 0 refl (whole !))) (LL.lawful Z.the-type Z′.the-laws 𝓤 H A W .typed (one .stamp) _ (stamp-is one k) .0)) $
             rewrite ! 54 (λ (ls : List Val). ‵ (fat fullShare S′.mir l₄ 0 (state ls (map E′.lowered (set (t .session .entries) (one .at) (one .entry))) (t .session .progress) (t .session .terms)))) (map-set Z′.lowered (t .session .last) (one .slot) (one .stamp)) refl $
             -- the progress
-            assigns ! (of-opd ! (field-of ! 46 P′.mir 88 refl refl refl)) (from ! (into ! P′.mir 3840 refl (stop !)))
+            assigns ! (of-opd ! (field-of ! 40 P′.mir 88 refl refl refl)) (from ! (into ! P′.mir 3840 refl (stop !)))
             (store-in ! 54 (within ! 2 P′.mir 3840 refl (whole !)) (LL.lawful P.the-type P′.the-laws 𝓤 H A W .typed (one .next) _ (next-is one k) .0)) $
             assigns-last ! (bin ! (var ! 50 refl) (lit ! tt) (record { fits = on })) (from ! (stop !)) (store ! 50 refl (tt, record { fits = on })) $
-            forget ! 48 refl $ forget ! 46 refl $ forget ! 42 refl $ forget ! 40 refl $ forget ! 28 refl $ forget ! 26 refl $ forget ! 24 refl $ forget ! 22 refl $ forget ! 20 refl $
+            forget ! 48 refl $ forget ! 44 refl $ forget ! 42 refl $ forget ! 40 refl $ forget ! 36 refl $ forget ! 34 refl $ forget ! 24 refl $ forget ! 22 refl $ forget ! 20 refl $
             forget ! 18 refl $ forget ! 16 refl $ forget ! 14 refl $ forget ! 12 refl $ move ! (0 ∷ 1 ∷ 3 ∷ []) $
             again ! (Nearer s₀ lent os) At t (next s₀ lent os t more one took taken (zs .0) e l k) (omega (arith, more))))))))))
           where
@@ -397,40 +407,43 @@ module _ {M : Type 1} (𝓤 : URA M) (H : Heap 𝓤) (A : Atoms 𝓤) (W : Given
             slot-within : one .slot < length (map Z′.lowered (t .session .last))
             slot-within = omega (arith, took .slot, slots-are (t .session) (t .is))
 
-        answered : Sq W Took (runs Cs Λ En (behind 10 mir-of.turn-1) (anyQ (Turned t)))
-        answered = arms ! (var ! 40 refl) (λ bad. refuses bad) (λ ok. accepts (is-accepted one ok))
+        answered : Sq W Took (runs Cs Λ En (behind 12 mir-of.turn-1) (anyQ (Turned t)))
+        answered = arms ! (var ! 34 refl) (λ bad. refuses bad) (λ ok. accepts (is-accepted one ok))
 
       -- a turn that takes one command
       turn-on : (t : Stand) → ltb (t .i) (length os) ≡ true → Sq W (At t) (runs Cs Λ En mir-of.turn-1 (anyQ (Turned t)))
       unfolding afterTurn
       turn-on t test =
-          sets ! (of-opd ! (field-of ! 56 (tyInt w64) 8 refl refl refl)) (init ! 42 refl (tt, record { fits = room′ .0 })) $
-          sets ! (bin ! (var ! 50 refl) (var ! 42 refl) tt) (init ! 40 refl (tt, tt)) $
-          rewrite ! 40 (λ (z : Bool). ‵ (fat fullShare tyBool l₁₁ 0 (vbool z))) test refl $ stays ! (var ! 40 refl) $
+          sets ! (of-opd ! (field-of ! 56 (tyInt w64) 8 refl refl refl)) (init ! 36 refl (tt, record { fits = room′ .0 })) $
+          sets ! (bin ! (var ! 50 refl) (var ! 36 refl) tt) (init ! 34 refl (tt, tt)) $
+          rewrite ! 34 (λ (z : Bool). ‵ (fat fullShare tyBool l₁₄ 0 (vbool z))) test refl $ stays ! (var ! 34 refl) $
           -- the place of the command
-          sets ! (bin ! (var ! 50 refl) (lit ! tt) (record { fits = far })) (store ! 42 refl (tt, record { fits = far })) $
-          sets ! (bin ! (field-of ! 56 (tyRef (named 1) imm (pointee (O.the-row .written))) 0 refl refl refl) (var ! 42 refl) tt) (init ! 38 refl (tt, tt)) $
-          rewrite ! 38 (λ (p : ℕ). ‵ (fat fullShare tyPtr l₁₂ 0 (vptr b′ p))) (sym (place-is 32 o′ (t .i))) refl $
+          sets ! (bin ! (var ! 50 refl) (lit ! tt) (record { fits = far })) (store ! 36 refl (tt, record { fits = far })) $
+          sets ! (bin ! (field-of ! 56 (tyRef (named 1) imm (pointee (O.the-row .written))) 0 refl refl refl) (var ! 36 refl) tt) (init ! 32 refl (tt, tt)) $
+          rewrite ! 32 (λ (p : ℕ). ‵ (fat fullShare tyPtr l₁₅ 0 (vptr b′ p))) (sym (place-is 32 o′ (t .i))) refl $
           -- the slice is looked into; one copy of what it owns is kept
           move ! (2 ∷ 3 ∷ []) $ use1 W (‵ Offers ⊛ ‵ Offers) (shr-slice-copy 𝓤 H A W (named 1) κ′ O.the-row .twice y (m′ ∷ [])) $ split ! $ fsplit ! $ drop ! $ fsplit ! $ drop ! $ move ! (0 ∷ 2 ∷ []) $
           looks-slice ! tt O.the-row (Is O.the-row) (shows 𝓤 H A O.the-row) (λ d. O′.lowered d ∷ []) (O′.lowers .val-is) (LL.copy O.the-type O′.the-copy 𝓤 H A W) os b′ o′ (λ share.
           elem-out ! O.the-row (Is O.the-row) (shows 𝓤 H A O.the-row) (λ d. O′.lowered d ∷ []) (O′.lowers .val-is) share os (t .i) no-offer b′ o′ more (λ g.
           -- [the command; what it owns; the others; what shuts; the fractured borrow; Offers; Journal; its token; _29; …]
-          sets ! (of-opd ! (load ! (from ! (hop ! (look ! 42 refl) (stop !))) (look-raw ! 0 refl))) (init ! 40 refl (LL.lawful O.the-type O′.the-laws 𝓤 H A W .typed (read t more) _ g .0)) $
+          sets ! (of-opd ! (load ! (from ! (hop ! (look ! 36 refl) (stop !))) (look-raw ! 0 refl))) (init ! 34 refl (LL.lawful O.the-type O′.the-laws 𝓤 H A W .typed (read t more) _ g .0)) $
           elem-back ! O.the-row share os (t .i) no-offer (O′.lowered (read t more) ∷ []) b′ o′ more $ shuts-slice ! tt O.the-row share os b′ o′ $ move ! (1 ∷ []) $ drop ! $
           -- [the token of the commands; Offers; Journal; its token; _29; …]
-          sets ! (of-opd ! (var ! 36 refl)) (init ! 48 refl (LL.lawful O.the-type O′.the-laws 𝓤 H A W .typed (read t more) _ g .0)) $
-          sets ! (of-opd ! (var ! 54 refl)) (init ! 34 refl (LL.lawful S.the-type S′.the-laws 𝓤 H A W .typed (t .session) _ (t .is) .0)) $
+          sets ! (of-opd ! (var ! 30 refl)) (init ! 48 refl (LL.lawful O.the-type O′.the-laws 𝓤 H A W .typed (read t more) _ g .0)) $
+          -- what judging reads of the state
+          sets ! (of-opd ! (field-of ! 54 lastTy 0 refl refl refl)) (init ! 46 refl (array-lawful 𝓤 H A W Z.the-row (LL.lawful Z.the-type Z′.the-laws 𝓤 H A W) 224 .typed (t .session .last) _ (last-is (t .session) (t .is)) .0)) $
+          sets ! (of-opd ! (field-of ! 54 U′.mir 3944 refl refl refl)) (init ! 44 refl (LL.lawful U.the-type U′.the-laws 𝓤 H A W .typed (t .session .terms) _ (terms-is (t .session) (t .is)) .0)) $
+          sets ! (of-opd ! (field-of ! 54 P′.mir 3840 refl refl refl)) (init ! 42 refl (LL.lawful P.the-type P′.the-laws 𝓤 H A W .typed (t .session .progress) _ (progress-is (t .session) (t .is)) .0)) $
           -- `take_one` is called
           use0 W (raw (Take 𝓤 H A at-mem run .pre (to-take t more))) (goes-take t more g) $
           calls-at ! fm (Take 𝓤 H A at-mem run) takes (to-take t more)
-          (and-then ! (var ! 35 refl) (and-then ! (var ! 49 refl) (and-then ! (var ! 53 refl) (no-more !)))) (λ w.
-          use1 W (later (some-of (λ (r : Taken). (‵ ftrue ⊛ ‵ (K.the-row .own r (w ∷ []))) ⊛ raw (ensured 𝓤 H A take-one.ended (take-one.clauses 𝓤 H A at-mem run) tt (t .session, (read t more, (most, tt))) tt r)))) (id⊢ 𝓤 _) $ await ! tt $ pick ! (λ one.
-          split ! $ move ! (1 ∷ []) $ use1 W (some-of (λ (zs : Unit {0} × (Unit {0} × (Unit {0} × Unit {0}))). ‵ (lasts take-one.ended tt (t .session, (read t more, (most, tt))) zs) ⊛ raw (fact 𝓤 (Takes (t .session) (read t more) most one)))) (id⊢ 𝓤 _) $ pick ! (λ zs.
-          split ! $ move ! (1 ∷ []) $ heard ! (Takes (t .session) (read t more) most one) (λ took. drop ! $ split ! $ drop ! $ peeks ! K.the-row (Is K.the-row) (shows 𝓤 H A K.the-row) one (w ∷ []) (λ is₁.
-          land ! (from ! (stop !)) (init ! 47 refl (LL.lawful K.the-type K′.the-laws 𝓤 H A W .typed one _ is₁ .0)) $ rewrite ! 47 (λ (u : Val). ‵ (fat fullShare K′.mir l₈ 0 u)) (ap only (K′.lowers .val-is one _ is₁)) refl $ drop ! $
-          sets ! (bin ! (load ! (from ! (into ! R′.mir 0 refl (into ! word 0 refl (stop !)))) (look-in ! 46 (within ! 0 word 0 refl (within ! 0 R′.mir 0 refl (whole !))))) (lit ! tt) tt) (store ! 40 refl (tt, tt)) $
-          forget ! 42 refl $ forget ! 38 refl $ forget ! 36 refl $ forget ! 34 refl $ answered t more g one took (lowered-is K.the-row K′.lowered (K′.lowers .val-is) one _ is₁))))))))
+          (and-then ! (var ! 47 refl) (and-then ! (var ! 45 refl) (and-then ! (var ! 43 refl) (and-then ! (var ! 49 refl) (and-then ! (var ! 53 refl) (no-more !)))))) (λ w.
+          use1 W (later (some-of (λ (r : Taken). (‵ ftrue ⊛ ‵ (K.the-row .own r (w ∷ []))) ⊛ raw (ensured 𝓤 H A take-one.ended (take-one.clauses 𝓤 H A at-mem run) tt (handed t more) tt r)))) (id⊢ 𝓤 _) $ await ! tt $ pick ! (λ one.
+          split ! $ move ! (1 ∷ []) $ use1 W (some-of (λ (zs : Unit {0} × (Unit {0} × (Unit {0} × (Unit {0} × (Unit {0} × Unit {0}))))). ‵ (lasts take-one.ended tt (handed t more) zs) ⊛ raw (fact 𝓤 (TakesAny (t .session .last) (t .session .terms) (t .session .progress) (read t more) most one)))) (id⊢ 𝓤 _) $ pick ! (λ zs.
+          split ! $ move ! (1 ∷ []) $ heard ! (TakesAny (t .session .last) (t .session .terms) (t .session .progress) (read t more) most one) (λ took. drop ! $ split ! $ drop ! $ peeks ! K.the-row (Is K.the-row) (shows 𝓤 H A K.the-row) one (w ∷ []) (λ is₁.
+          land ! (from ! (stop !)) (init ! 41 refl (LL.lawful K.the-type K′.the-laws 𝓤 H A W .typed one _ is₁ .0)) $ rewrite ! 41 (λ (u : Val). ‵ (fat fullShare K′.mir l₁₁ 0 u)) (ap only (K′.lowers .val-is one _ is₁)) refl $ drop ! $
+          sets ! (bin ! (load ! (from ! (into ! R′.mir 0 refl (into ! word 0 refl (stop !)))) (look-in ! 40 (within ! 0 word 0 refl (within ! 0 R′.mir 0 refl (whole !))))) (lit ! tt) tt) (store ! 34 refl (tt, tt)) $
+          forget ! 46 refl $ forget ! 36 refl $ forget ! 32 refl $ forget ! 30 refl $ answered t more g one (took (t .session .entries)) (lowered-is K.the-row K′.lowered (K′.lowers .val-is) one _ is₁))))))))
         where
           more : t .i < length os
           more = ltb-true (t .i) (length os) test
@@ -460,14 +473,14 @@ module _ {M : Type 1} (𝓤 : URA M) (H : Heap 𝓤) (A : Atoms 𝓤) (W : Given
         move ! (61 ∷ 60 ∷ []) $ fsplit ! $ drop ! $ fsplit ! $ move ! (1 ∷ []) $ fsplit ! $ move ! (3 ∷ []) $ split3 ! $ move ! (5 ∷ 0 ∷ 3 ∷ 1 ∷ []) $ move ! (4 ∷ 5 ∷ []) $ drop ! $ drop ! $
         -- [Journal; its token; Offers; its token; _29; …]
         sets ! (of-opd ! (var ! 60 refl)) (init ! 54 refl (LL.lawful S.the-type S′.the-laws 𝓤 H A W .typed s₀ _ is₀ .0)) $
-        sets ! (of-opd ! (field-of ! 58 (tyInt w64) 8 refl refl refl)) (init ! 44 refl (tt, record { fits = room .0 })) $
+        sets ! (of-opd ! (field-of ! 58 (tyInt w64) 8 refl refl refl)) (init ! 38 refl (tt, record { fits = room .0 })) $
         -- `room_of` is called
-        use0 W (raw (Rooms 𝓤 H A at-mem run .pre to-rooms)) goes-rooms $ calls-at ! fm (Rooms 𝓤 H A at-mem run) rooms to-rooms (and-then ! (var ! 45 refl) (no-more !)) (λ w.
+        use0 W (raw (Rooms 𝓤 H A at-mem run .pre to-rooms)) goes-rooms $ calls-at ! fm (Rooms 𝓤 H A at-mem run) rooms to-rooms (and-then ! (var ! 39 refl) (no-more !)) (λ w.
         use1 W (later (some-of (λ (r : ℕ). (‵ ftrue ⊛ ‵ (u64 .own r (w ∷ []))) ⊛ raw (ensured 𝓤 H A room-of.ended (room-of.clauses 𝓤 H A at-mem run) tt (length lent, tt) tt r)))) (id⊢ 𝓤 _) $ await ! tt $ pick ! (λ r.
         split ! $ move ! (1 ∷ []) $ use1 W (some-of (λ (zs : Unit {0} × Unit {0}). ‵ (lasts room-of.ended tt (length lent, tt) zs) ⊛ raw (fact 𝓤 (r ≡ most)))) (id⊢ 𝓤 _) $ pick ! (λ zs.
         split ! $ move ! (1 ∷ []) $ heard ! (r ≡ most) (λ e. drop ! $ split ! $ drop ! $ peeks ! u64 (Is u64) (shows 𝓤 H A u64) r (w ∷ []) (λ is.
         land ! (from ! (stop !)) (init ! 53 refl (uint-lawful 𝓤 H A W w64 .typed r _ is .0)) $ rewrite ! 53 (λ (u : Val). ‵ (fat fullShare (tyInt w64) l₅ 0 u)) (ap only (is .0) ∙ ap (vint w64) e) refl $ drop ! $
-        sets ! (of-opd ! (lit ! tt)) (init ! 50 refl (tt, record { fits = lit< tt })) $ forget ! 44 refl $
+        sets ! (of-opd ! (lit ! tt)) (init ! 50 refl (tt, record { fits = lit< tt })) $ forget ! 38 refl $
         rounds l₀ l₁ l₂ l₃ l₄ l₅ l₆ l₇ l₈ l₉ l₁₀ l₁₁ l₁₂ l₁₃ l₁₄ l₁₅ l₁₆ l₁₇ l₁₈ l₁₉ l₂₀ l₂₁ l₂₂ l₂₃ l₂₄ l₂₅ l₂₆ l₂₇ l₂₈ l₂₉ (starts s₀ lent os is₀))))))))))))))))))))))))))))))))))))
 
 module _ {M : Type 1} (𝓤 : URA M) (H : Heap 𝓤) (A : Atoms 𝓤) (W : Given 𝓤 H A) (at-mem : Memory → SProp 𝓤) (run : Routine → Fun 𝓤) (𝓣 : Tables 𝓤 H) (rooms : Triple 𝓤 (𝓣 .C #journal·write·room-of) (Rooms 𝓤 H A at-mem run))

@@ -13,7 +13,8 @@ use lib.ListN.{length, getD, drop, drop-of-length-le, length-map}
 use lib.Seq.{drop-cons}
 use lib.WfN.{Nat·lt-wfRel}
 use mir.Syntax.{w64}
-use mir.Val.{vint}
+use mir.Val.{Val, vint}
+use denote.Array.{Array, arrayVal, array-tells}
 use denote.Laws.{Is}
 use Rattle.history.specs.Records.{command}
 use Rattle.history.specs.Answers.{recordSize, roomOf}
@@ -21,6 +22,7 @@ use Rattle.timing.proofs.rules.Command as C
 use Rattle.timing.proofs.rules.Command.Laws as C′
 use Rattle.timing.proofs.clocks.ControllerCycles as Y
 use Rattle.timing.proofs.clocks.ControllerCycles.Laws as Y′
+use Rattle.session.specs.declared.stamps.Stamp.{Stamp}
 use Rattle.session.specs.declared.state.Session.{Session}
 use Rattle.session.proofs.state.Session as S
 use Rattle.session.proofs.state.Session.Laws as S′
@@ -28,6 +30,8 @@ use Rattle.session.proofs.state.Entry as E
 use Rattle.session.proofs.state.Entry.Laws as E′
 use Rattle.session.proofs.state.Progress as P
 use Rattle.session.proofs.state.Progress.Laws as P′
+use Rattle.session.proofs.state.Terms as U
+use Rattle.session.proofs.state.Terms.Laws as U′
 use Rattle.session.proofs.stamps.Stamp as Z
 use Rattle.session.proofs.stamps.Stamp.Laws as Z′
 use Rattle.journal.specs.declared.records.Offer.{Offer}
@@ -44,7 +48,7 @@ use Rattle.statements.proofs.BurstLaws.{bursts, Bursting, bursting-start, burst
 use Rattle.bursts.specs.Taken.{Takes, storedIn}
 use Rattle.bursts.specs.declared.taken.Taken.{Taken}
 use Rattle.bursts.specs.declared.pieces.Burst.{Burst}
-use Rattle.capi.proofs.Element.{lowered-is, set-is}
+use Rattle.capi.proofs.Element.{lowered-is, set-is, alone-is}
 use Rattle.bursts.proofs.taken.Taken as K
 use Rattle.bursts.proofs.taken.Taken.Laws as K′
 use Rattle.bursts.proofs.pieces.Burst as B
@@ -65,6 +69,9 @@ IsTaken t = Is K.the-row t (K′.lowered t ∷ [])
 
 abbrev pub IsBurst : Burst → Type 0
 IsBurst b = Is B.the-row b (B′.lowered b ∷ [])
+
+abbrev pub lastVal : List Stamp → Val
+lastVal xs = arrayVal (map Z′.lowered xs)
 
 module _ (o : Offer) (p : IsOffer o) where
   pub cycle-is : Is Y.the-row (o .cycle) (Y′.lowered (o .cycle) ∷ [])
@@ -92,6 +99,15 @@ module _ (s : Session) (p : IsSession s) where
 
   pub entries-are : length (map E′.lowered (s .entries)) ≡ 64
   entries-are = length-map (s .entries) E′.lowered ∙ sym (length-map (s .entries) (E.the-field .into)) ∙ p .1 .1 .1 .0 .1 .0 .1
+
+  pub last-is : Is (Array Z.the-row 224) (s .last) (lastVal (s .last) ∷ [])
+  last-is = lowered-is (Array Z.the-row 224) lastVal (array-tells Z.the-row (λ d. Z′.lowered d ∷ []) (Z′.lowers .val-is) 224) (s .last) _ (alone-is Z.the-field (Z.the-row .own) (λ x vs i. i) 224 (s .last) _ (p .1 .1 .0))
+
+  pub progress-is : Is P.the-row (s .progress) (P′.lowered (s .progress) ∷ [])
+  progress-is = lowered-is P.the-row P′.lowered (P′.lowers .val-is) (s .progress) _ (p .1 .1 .1 .1 .0)
+
+  pub terms-is : Is U.the-row (s .terms) (U′.lowered (s .terms) ∷ [])
+  terms-is = lowered-is U.the-row U′.lowered (U′.lowers .val-is) (s .terms) _ (p .1 .1 .1 .1 .1 .0)
 
   pub records-fit : s .progress .records < 2 ^ 64
   records-fit = p .1 .1 .1 .1 .0 .1 .1 .1 .1 .1 .1 .1 .0 .1
