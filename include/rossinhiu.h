@@ -171,7 +171,7 @@ struct rossinhiu_offered rossinhiu_offer(struct rossinhiu_session session, uint8
 
 /*
  * Offers `listed` commands one after the other, up to the first refusal, as single calls of rossinhiu_offer would: the same state, the
- * same bytes. The state is copied once for the call, not once for each command.
+ * same bytes. The state is copied for the call, and not for each command.
  * `count` says how many were accepted; their records stand one behind the other from 64 * (records before the call) on. number,
  * cycle and gap are the first refusal whole, as rossinhiu_offer gives it; all three are 0 if none was refused. Commands behind the
  * refused one are not looked at. With `listed` 0 nothing is asked: 0, even with no session open.
