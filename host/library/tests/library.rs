@@ -476,14 +476,14 @@ impl Checker for Library {
     }
 }
 
-/// Bursts as structs and as bytes, among openings, offers and take-backs: about a third as many commands as there are calls above.
+/// Bursts as structs and as bytes, among openings, offers and take-backs: about as many commands as there are calls above.
 #[test]
 fn bursts_as_the_model() {
     let fresh = |journal| Library {
         session: checker::fresh(),
         journal,
     };
-    let rounds = calls_wanted() / 1_000;
+    let rounds = calls_wanted() / 300;
     let handed = compare_burst_calls(first_seed(), rounds, u64::MAX, fresh);
     println!(
         "{} commands in bursts",
