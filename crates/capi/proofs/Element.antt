@@ -1,6 +1,5 @@
 -- An element of an array that lies in a local, beside `Types/Part.antt`'s fields, and what a walk wants of an array whose element is stored to. It says nothing of the crate.
 --     element j p      element j of an array's cell that p finds: as `sub` for a field. So `store-in ! n (element ! … (sub ! 1 refl (whole !)))` stores to `x.1[j]`
---     map-set          the machine values of a list with one element set
 --     set-is           an array with one element set is one of its type
 --     alone-is         an array that is a field of a struct is one of its type by itself
 --     lowered-is       a value is one of its type at the machine value that is written out
@@ -28,12 +27,6 @@ use denote.RattleType.{RattleType}
 use denote.Shadow.{shadow}
 use denote.Laws.{Is, Tells}
 use denote.Struct.Field.{Field}
-
--- ---- lists
-pub map-set : {A B : Type 0} (f : A → B) (xs : List A) (j : ℕ) (y : A) → set (map f xs) j (f y) ≡ map f (set xs j y)
-map-set f [] j y = refl
-map-set f (x ∷ xs) zero y = refl
-map-set {B = B} f (x ∷ xs) (suc j) y = ap (λ (zs : List B). f x ∷ zs) (map-set f xs j y)
 
 -- ---- values of a type
 pub lowered-is : (R : RattleType) (low : R .Denot → Val) → Tells R (Is R) (λ d. low d ∷ []) → (d : R .Denot) (vs : List Val) → Is R d vs → Is R d (low d ∷ [])

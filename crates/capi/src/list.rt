@@ -8,8 +8,11 @@ use bursts::taken::write_command;
 use journal::records::Offer;
 use journal::write::room_of;
 use judging::answers::Answer;
+use scan::earliest::gap_steps;
+use scan::earliest::numbers;
 use session::state::Session;
 use timing::clocks::ControllerCycles;
+use timing::table::table;
 
 #[no_mangle]
 pub extern "C" fn rossinhiu_offer_all_2(
@@ -20,13 +23,15 @@ pub extern "C" fn rossinhiu_offer_all_2(
     ensures { λ r. ⌜ Bursts session (now (journal .entry)) (now (offers .entry)) (r .count) (replyIn (r .answer)) (r .session) (now (journal .exit)) ⌝ }
 {
     let most = room_of(journal.len());
+    let gap_table = table();
+    let steps = gap_steps(session.terms.rounded);
+    let mut last = numbers(session.last);
     let mut i = 0;
     while i < offers.len() {
         let offer = offers[i];
-        let last = session.last;
         let terms = session.terms;
         let progress = session.progress;
-        let one = take_one(last, terms, progress, offer, most);
+        let one = take_one(&gap_table, &steps, &last, terms, progress, offer, most);
         if one.answer.number != Answer::ACCEPTED {
             return Burst {
                 session,
@@ -43,6 +48,7 @@ pub extern "C" fn rossinhiu_offer_all_2(
         );
         session.entries[one.at] = one.entry;
         session.last[one.slot] = one.stamp;
+        last[one.slot] = one.stamp.0;
         session.progress = one.next;
         i += 1;
     }

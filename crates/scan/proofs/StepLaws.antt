@@ -18,6 +18,7 @@ use Rattle.timing.specs.declared.rules.Opening.{Opening}
 use Rattle.timing.specs.Clocks.{cycles}
 use Rattle.session.specs.State.{gapAt}
 use Rattle.scan.specs.Scan.{tabulated, stepOf, stepFor, stepsTo}
+use Rattle.scan.specs.Rows.{gapSteps}
 
 module _ (f : ℕ → ℕ) where
   pub length-tabulated : (n : ℕ) → length (tabulated f n) ≡ n
@@ -45,14 +46,14 @@ module _ (f : ℕ → ℕ) where
       go true e = rw (getD-tabulated n i (ltb-true i n e)) (all i)
       go false e = rw (List·getD-eq-default (tabulated f n) 0 {n = i} (omega (arith, ltb-false i n e, length-tabulated n))) above
 
-module _ (o : Opening) (rounded : List ControllerCycles) (second : CommandKind) where
-  step-low : (n : ℕ) → stepOf rounded n < 2097152
-  step-low n = go (eqb n 0)
-    where
-      go : (t : Bool) → cond t 0 (getD rounded (n - 1) (cycles 0) .0 % 65536 * 32 + (31 - n)) < 2097152
-      go true = lit< tt
-      go false = omega arith
+step-low : (rounded : List ControllerCycles) (n : ℕ) → stepOf rounded n < 2097152
+step-low rounded n = go (eqb n 0)
+  where
+    go : (t : Bool) → cond t 0 (getD rounded (n - 1) (cycles 0) .0 % 65536 * 32 + (31 - n)) < 2097152
+    go true = lit< tt
+    go false = omega arith
 
+module _ (o : Opening) (rounded : List ControllerCycles) (second : CommandKind) where
   abbrev step-at : ℕ → ℕ
   step-at i = stepFor o rounded (kindAt (i / 3)) second (i % 3)
 
@@ -64,11 +65,6 @@ module _ (o : Opening) (rounded : List ControllerCycles) (second : CommandKind) 
   unfolding stepsTo
   steps-at i l = sym (getD-tabulated step-at 21 i l)
 
-  pub steps-below : (i : ℕ) → getD (stepsTo o rounded second) i 0 < 2097152
-  unfolding stepsTo
-  steps-below i =
-      tabulated-below step-at 2097152 (lit< tt) (λ j. step-low (tableGap o (classFor (kindAt (j / 3)) second (j % 3)) (kindAt (j / 3)) second)) 21 i
-
 -- the step of gap n from the place before it; where there is no gap any place will do
 pub step-from : (rounded : List ControllerCycles) (n : ℕ) → n < 21 → cond (eqb n 0) 0 (gapAt rounded ((n + 19) % 20) .0 % 65536 * 32 + (31 - n)) ≡ stepOf rounded n
 step-from rounded n l = go (eqb n 0) refl
@@ -79,3 +75,17 @@ step-from rounded n l = go (eqb n 0) refl
         let some : n ≢ 0 = eqb-false n 0 e in
         let place : (n + 19) % 20 ≡ n - 1 = omega arith in
         ap (λ (k : ℕ). gapAt rounded k .0 % 65536 * 32 + (31 - n)) place
+
+-- the step of each gap number
+module _ (rounded : List ControllerCycles) where
+  pub gap-steps-size : length (gapSteps rounded) ≡ 21
+  unfolding gapSteps
+  gap-steps-size = length-tabulated (stepOf rounded) 21
+
+  pub gap-steps-at : (n : ℕ) → n < 21 → stepOf rounded n ≡ getD (gapSteps rounded) n 0
+  unfolding gapSteps
+  gap-steps-at n l = sym (getD-tabulated (stepOf rounded) 21 n l)
+
+  pub gap-steps-below : (i : ℕ) → getD (gapSteps rounded) i 0 < 2097152
+  unfolding gapSteps
+  gap-steps-below i = tabulated-below (stepOf rounded) 2097152 (lit< tt) (step-low rounded) 21 i

@@ -4,30 +4,33 @@ ghost use mathlib.Core.Path.{_≡_};
 ghost use mathlib.Core.Bool.{cond};
 ghost use Prim.Native.Nat.{ℕ, _+_, _-_, _*_, _%_, _<_, max};
 ghost use lib.Dec.{eqb};
-ghost use lib.ListN.{getD};
-ghost use Rattle.timing.specs.Table.{gapTable};
-ghost use Rattle.scan.specs.Scan.{stepsTo, askOf, fourOf, largestAsk, unpacked, askIn};
+ghost use Rattle.timing.specs.declared.kinds.CommandKind.the-variants.{Act};
+ghost use Rattle.timing.specs.Kinds.{sameKind};
+ghost use Rattle.session.specs.Stamps.{readBack};
+ghost use Rattle.scan.specs.Scan.{askOf, unpacked, askIn};
+ghost use Rattle.scan.specs.Rows.{stamps, gapSteps, fourthFor, lentAsk, Ready};
+use crate::asks::of_rank;
+use crate::rows::ask_of;
+use crate::rows::larger;
 use session::stamps::Stamp;
-use session::state::Progress;
-use session::state::RANK_SLOTS;
 use session::state::SLOTS;
-use session::state::Terms;
 use timing::clocks::ControllerCycles;
 use timing::kinds::CommandKind;
 use timing::rules::Command;
 use timing::rules::Opening;
-use timing::rules::class_for;
-use timing::rules::nearness;
-use timing::table::gap_number;
-use timing::table::kind_at;
 
-pub fn larger(a: u64, b: u64) -> u64
-    ensures { λ r. ⌜ r ≡ max a b ⌝ }
+// The stamps as the numbers that they are.
+pub fn numbers(last: [Stamp; SLOTS]) -> [u64; SLOTS]
+    ensures { λ r. ⌜ stamps r ≡ last ⌝ }
 {
-    if a < b {
-        return b;
+    let mut found = [0u64; SLOTS];
+    let mut i = 0;
+    while i < SLOTS {
+        let stamp = last[i];
+        found[i] = stamp.0;
+        i += 1;
     }
-    a
+    found
 }
 
 // What gap n, rounded to this many cycles, adds to a stamp less 1.
@@ -41,57 +44,37 @@ fn step_of(gap: ControllerCycles, n: usize) -> u64
     gap.0 % 65536 * 32 + (31 - n as u64)
 }
 
-// The steps from each kind, for each nearness of the banks. Gap n stands at n - 1; where there is none any will do.
-fn steps(
-    table: &[u8; 294],
-    opening: Opening,
-    rounded: [ControllerCycles; 20],
-    second: CommandKind,
-) -> [u64; 21]
-    requires { ⌜ now table ≡ gapTable ⌝ }
-    ensures { λ r. ⌜ (r ≡ stepsTo opening rounded second) × ((i : ℕ) → getD r i 0 < 2097152) ⌝ }
+// The step of each gap number. Gap n stands at n - 1; for 0 any will do.
+pub fn gap_steps(rounded: [ControllerCycles; 20]) -> [u64; 21]
+    ensures { λ r. ⌜ r ≡ gapSteps rounded ⌝ }
 {
     let mut found = [0u64; 21];
     let mut i = 0;
     while i < 21 {
-        let first = kind_at(i / 3);
-        let class = class_for(first, second, i % 3);
-        let n = gap_number(table, opening, class, first, second);
-        let gap = rounded[(n + 19) % 20];
-        found[i] = step_of(gap, n);
+        let gap = rounded[(i + 19) % 20];
+        found[i] = step_of(gap, i);
         i += 1;
     }
     found
 }
 
-fn ask_of(kept: u64, step: u64) -> u64
-    requires { ⌜ kept < 2199023255552 ⌝ }
-    requires { ⌜ step < 2097152 ⌝ }
-    ensures { λ r. ⌜ r ≡ askOf kept step ⌝ }
+// The fourth activate of the command's rank.
+pub fn fourth_for(activates: [Stamp; 8], command: Command) -> Stamp
+    ensures { λ r. ⌜ r ≡ fourthFor activates command ⌝ }
 {
-    if kept == 0 {
-        return 0;
+    if command.rank % 2 == 0 {
+        return activates[3];
     }
-    if step == 0 {
-        return 0;
-    }
-    (kept - 1) * 32 + step
+    activates[7]
 }
 
-// What the fourth activate of the rank asks for, of an ACT; nothing of another kind.
-fn four(
-    activates: [Stamp; 8],
-    rounded: [ControllerCycles; 20],
-    kind: CommandKind,
-    rank: usize,
-) -> u64
-    requires { ⌜ rank < 2 ⌝ }
-    ensures { λ r. ⌜ r ≡ fourOf activates rounded kind rank ⌝ }
+// What it asks for, of an ACT; nothing of another kind.
+fn four(fourth: Stamp, step: u64, kind: CommandKind) -> u64
+    requires { ⌜ step < 2097152 ⌝ }
+    ensures { λ r. ⌜ r ≡ cond (sameKind kind Act) (askOf (readBack (fourth .0)) step) 0 ⌝ }
 {
     if kind.number() == CommandKind::ACT {
-        let kept = activates[rank * 4 + 3];
-        let gap = rounded[19];
-        return ask_of(kept.after().0, step_of(gap, 20));
+        return ask_of(fourth.after().0, step);
     }
     0
 }
@@ -101,37 +84,23 @@ pub struct Earliest {
     pub gap: u64,
 }
 
-// It takes what it reads, and no more: the take-back entries would be copied at every call. So would the stamps, were the scan over the
-// entries of the rank a function of its own.
+// It takes what it reads, and no more: what goes by value is copied at every call.
 pub fn earliest_of(
     table: &[u8; 294],
-    last: [Stamp; SLOTS],
-    terms: Terms,
-    progress: Progress,
+    steps: &[u64; 21],
+    last: &[u64; SLOTS],
+    opening: Opening,
     command: Command,
+    latest: Stamp,
+    fourth: Stamp,
 ) -> Earliest
-    requires { ⌜ now table ≡ gapTable ⌝ }
-    ensures { λ r. ⌜ askIn r ≡ unpacked (largestAsk last terms progress command) ⌝ }
+    requires { ⌜ Ready (now table) (now steps) command ⌝ }
+    ensures { λ r. ⌜ askIn r ≡ unpacked (lentAsk (now (steps .entry)) (now (last .entry)) opening command latest fourth) ⌝ }
 {
-    let opening = terms.opening;
-    let rounded = terms.rounded;
-    let activates = progress.activates;
-    let latest = progress.latest;
     let kind = command.kind;
-    let bank = command.bank;
-    let rank = command.rank as usize % 2;
-    let base = rank * RANK_SLOTS;
-    let found = steps(table, opening, rounded, kind);
-    let mut best = latest.after().0 * 32 + 31;
-    let mut i = 0;
-    while i < RANK_SLOTS {
-        let near = nearness(opening, (i % 16) as u8, bank);
-        let kept = last[base + i];
-        let ask = ask_of(kept.after().0, found[i / 16 * 3 + near]);
-        best = larger(best, ask);
-        i += 1;
-    }
-    let largest = larger(best, four(activates, rounded, kind, rank));
+    let floor = latest.after().0 * 32 + 31;
+    let best = larger(floor, of_rank(table, steps, last, opening, command));
+    let largest = larger(best, four(fourth, steps[20], kind));
     Earliest {
         cycle: ControllerCycles(largest / 32),
         gap: 31 - largest % 32,

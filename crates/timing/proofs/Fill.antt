@@ -1,7 +1,7 @@
 -- A list that a loop fills from the front, one store a turn, until it is another list.
-use mathlib.Core.Path.{_≡_, sym, _∙_}
-use mathlib.Core.List.{List}
-use Prim.Native.Nat.{ℕ, _+_, _<_, _≤_}
+use mathlib.Core.Path.{_≡_, refl, sym, _∙_, ap}
+use mathlib.Core.List.{List, [], _∷_, map}
+use Prim.Native.Nat.{ℕ, zero, suc, _+_, _<_, _≤_}
 use native.Mathlib.Numerals.{add-one}
 use lib.ListN.{length, getD, take, set}
 use lib.Seq.{take-suc, take-suc-set, take-all}
@@ -12,3 +12,9 @@ module _ {ℓ} {A : Type ℓ} (d : A) (a b : List A) where
 
   pub fill-all : (n : ℕ) → length a ≤ n → length b ≤ n → take n a ≡ take n b → a ≡ b
   fill-all n la lb e = sym (take-all n a la) ∙ e ∙ take-all n b lb
+
+-- a store into what a list stands for
+pub map-set : {A B : Type 0} (f : A → B) (xs : List A) (j : ℕ) (y : A) → set (map f xs) j (f y) ≡ map f (set xs j y)
+map-set f [] j y = refl
+map-set f (x ∷ xs) zero y = refl
+map-set {B = B} f (x ∷ xs) (suc j) y = ap (λ (zs : List B). f x ∷ zs) (map-set f xs j y)

@@ -1,7 +1,7 @@
 -- Laws about the code numbers of the kinds.
 use mathlib.Core.Path.{_≡_, refl, sym, _∙_, ap}
 use mathlib.Core.Bool.{Bool, true, false, cond}
-use Prim.Native.Nat.{ℕ, _-_, _≤_}
+use Prim.Native.Nat.{ℕ, zero, suc, _-_, _<_, _≤_}
 use native.Mathlib.Omega.{arith}
 use lib.Dec.{lit≤, eqb}
 use borrow.Author.Tests.{eqb-true}
@@ -34,6 +34,17 @@ kind-of-code = by-kind (λ k. kindOf (codeOf k) ≡ Kind k) refl refl refl refl 
 
 pub kind-at-code : (k : CommandKind) → kindAt (codeOf k - 1) ≡ k
 kind-at-code = by-kind (λ k. kindAt (codeOf k - 1) ≡ k) refl refl refl refl refl refl refl
+
+-- the place of the kind at a place
+pub place-at : (i : ℕ) → i < 7 → codeOf (kindAt i) - 1 ≡ i
+place-at zero l = refl
+place-at (suc zero) l = refl
+place-at (suc (suc zero)) l = refl
+place-at (suc (suc (suc zero))) l = refl
+place-at (suc (suc (suc (suc zero)))) l = refl
+place-at (suc (suc (suc (suc (suc zero))))) l = refl
+place-at (suc (suc (suc (suc (suc (suc zero)))))) l = refl
+place-at (suc (suc (suc (suc (suc (suc (suc n))))))) l = absurd (omega (arith, l))
 
 abbrev kind-or : MaybeKind → CommandKind
 kind-or (Kind k) = k

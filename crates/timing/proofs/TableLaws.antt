@@ -8,11 +8,11 @@ use native.Mathlib.Nat.{add-zero, zero-add, add-suc, suc-add, le-of-suc-le-suc, 
 use native.Mathlib.Omega.{arith}
 use lib.Dec.{T, eqb, eqb→eq, ltb, ltb→lt, lit<}
 use lib.ListN.{length, getD}
-use borrow.Author.Tests.{lt-ltb}
+use borrow.Author.Tests.{lt-ltb, ltb-true, ltb-false}
 use Rattle.timing.specs.declared.kinds.CommandKind.{CommandKind}
 use Rattle.timing.specs.declared.rules.Opening.{Opening}
 use Rattle.timing.specs.Kinds.{codeOf, allBanks}
-use Rattle.timing.specs.Rules.{classFor, rules, matching, kindAt, ruleGap, firstOr0, tableGap, matches, Rule, covers}
+use Rattle.timing.specs.Rules.{classFor, rules, matching, kindAt, ruleGap, firstOr0, tableGap, matches, Rule, covers, modeCount}
 use Rattle.timing.specs.Table.{gapTable, matchingAt, inMode, tablePlace, alone, alonePlaces, agrees}
 use Rattle.timing.proofs.Truth.{and-left, and-right}
 use Rattle.timing.proofs.KindLaws.{code-low, code-high, kind-at-code}
@@ -157,3 +157,31 @@ class-low a b near l = go (allBanks a || allBanks b)
     go : (y : Bool) → cond y 2 near < 3
     go true = lit< tt
     go false = l
+
+-- NO GAP between two kinds in a class, whatever the mode: one test over the modes
+unfoldable pub silentBelow : ℕ → ℕ → CommandKind → CommandKind → Bool
+silentBelow zero class a b = true
+silentBelow (suc m) class a b = eqb (ruleGap (inMode m) class a b) 0 && silentBelow m class a b
+
+unfoldable pub silent : ℕ → CommandKind → CommandKind → Bool
+silent class a b = silentBelow modeCount class a b
+
+module _ (class : ℕ) (a b : CommandKind) where
+  silent-at : (n m : ℕ) → T (silentBelow n class a b) → m < n → ruleGap (inMode m) class a b ≡ 0
+  unfolding silentBelow
+  silent-at zero m t l = absurd (not-suc-le-zero l)
+  silent-at (suc n) m t l =
+      go (ltb m n) refl (silent-at n m (and-right (eqb (ruleGap (inMode n) class a b) 0) (silentBelow n class a b) t))
+      (and-left (eqb (ruleGap (inMode n) class a b) 0) (silentBelow n class a b) t)
+    where
+      go : (y : Bool) → ltb m n ≡ y → (m < n → ruleGap (inMode m) class a b ≡ 0) → T (eqb (ruleGap (inMode n) class a b) 0) → ruleGap (inMode m) class a b ≡ 0
+      go true e below here = below (ltb-true m n e)
+      go false e below here = let same : m ≡ n = omega (arith, ltb-false m n e) in rw same (eqb→eq (ruleGap (inMode n) class a b) 0 here)
+
+  pub silent-gap : (o : Opening) → T (silent class a b) → tableGap o class a b ≡ 0
+  unfolding tableGap ruleGap silent
+  silent-gap o t = go (ltb (o .mode) modeCount) refl
+    where
+      go : (y : Bool) → ltb (o .mode) modeCount ≡ y → cond y (firstOr0 (matching o class a b rules)) 0 ≡ 0
+      go true e = rw (sym (mode-only o class a b rules)) (silent-at modeCount (o .mode) t (ltb-true (o .mode) modeCount e))
+      go false e = refl

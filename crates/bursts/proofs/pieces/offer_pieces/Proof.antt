@@ -13,22 +13,33 @@ use Rattle.journal.proofs.PieceLaws.{piece, piece-is, piece-size}
 use Rattle.judging.specs.Judged.{replyIn}
 use Rattle.statements.specs.Bursts.{over, verdictIn}
 use Rattle.statements.proofs.BurstLaws.{bursts, Bursting, bursting-start, bursting-end, bursting-refused, bursting-accepted, leftFrom, left-all, left-none, left-one}
+use Rattle.scan.specs.Rows.{stamps, gapSteps}
+use Rattle.scan.proofs.LentLaws.{stamps-set}
 use Rattle.bursts.specs.Taken.{Takes}
 use borrow.Author.Needs.{needs}
 use Rattle.bursts.proofs.pieces.offer_pieces.Statement.{statement}
 use Rattle.bursts.proofs.pieces.offer_pieces.Tie as tie
 
 abbrev Inv-loop : tie.InvT-loop
-Inv-loop journal₀ pieces session₀ whole most i₀ journal session i = Bursting session₀ journal₀ (offersFrom pieces) session journal i (leftFrom pieces i) × (length journal ≡ length journal₀)
+Inv-loop journal₀ pieces session₀ whole most gap-table steps last₀ i₀ journal session last i = Bursting session₀ journal₀ (offersFrom pieces) session journal i (leftFrom pieces i) × (length journal ≡ length journal₀) × (stamps last ≡ session .last) × (steps ≡ gapSteps (session .terms .rounded))
 
 abbrev μ-loop : tie.MeasureT-loop
-μ-loop journal₀ pieces session₀ whole most i₀ journal session i = whole - i
+μ-loop journal₀ pieces session₀ whole most gap-table steps last₀ i₀ journal session last i = whole - i
 
 room-of-requires : tie.Need-room-of-requires Inv-loop μ-loop
 room-of-requires c κs = search needs
 
+table-requires : tie.Need-table-requires Inv-loop μ-loop
+table-requires c κs = search needs
+
+gap-steps-requires : tie.Need-gap-steps-requires Inv-loop μ-loop
+gap-steps-requires c κs = search needs
+
+numbers-requires : tie.Need-numbers-requires Inv-loop μ-loop
+numbers-requires c κs = search needs
+
 loop-holds : tie.Need-loop-holds Inv-loop μ-loop
-loop-holds c = let a = c .before .before .before .args in (rw (left-all (a .pieces .now)) (bursting-start (a .t1) (a .journal .now) (offersFrom (a .pieces .now))), refl)
+loop-holds c = let a = c .before .before .before .before .before .before .before .before .before .args in (rw (left-all (a .pieces .now)) (bursting-start (a .t1) (a .journal .now) (offersFrom (a .pieces .now))), refl, c .numbers .ensures, c .before .before .gap-steps .ensures)
 
 mul-start : tie.Need-mul-start Inv-loop μ-loop
 mul-start c = search needs
@@ -46,32 +57,32 @@ part-read-offer-end : tie.Need-part-read-offer-end Inv-loop μ-loop
 part-read-offer-end c = search needs
 
 read-offer-requires : tie.Need-read-offer-requires Inv-loop μ-loop
-read-offer-requires c κs = let p = c .before .before .before .before .before .before .args .pieces .now in let i = c .before .before .loop .i in rw (piece-is i p) (piece-size i p (c .before .loop-test .taken))
+read-offer-requires c κs = let p = c .before .before .before .before .before .before .before .before .before .before .before .before .args .pieces .now in let i = c .before .before .loop .i in rw (piece-is i p) (piece-size i p (c .before .loop-test .taken))
 
 take-one-requires : tie.Need-take-one-requires Inv-loop μ-loop
-take-one-requires c κs = search needs
+take-one-requires c κs = record { table-is = c .before .before .before .before .before .before .before .before .before .before .before .before .before .before .table .ensures; steps-are = c .before .before .before .before .before .before .before .before .loop .inv .3 }
 
 same-length : tie.Need-same-length Inv-loop μ-loop
-same-length c = c .before .before .before .before .before .before .before .before .before .before .loop .inv .1
+same-length c = c .before .before .before .before .before .before .before .before .before .before .before .before .loop .inv .1
 
 returns : tie.Need-returns Inv-loop μ-loop
 returns c =
-    let a = c .before .before .before .before .before .before .before .before .before .before .before .before .before .before .args in
-    let l = c .before .before .before .before .before .before .before .before .before .before .loop in
-    let more = c .before .before .before .before .before .before .before .before .before .loop-test .taken in
+    let a = c .before .before .before .before .before .before .before .before .before .before .before .before .before .before .before .before .before .before .before .before .before .before .args in
+    let l = c .before .before .before .before .before .before .before .before .before .before .before .before .loop in
+    let more = c .before .before .before .before .before .before .before .before .before .before .before .loop-test .taken in
     let p = a .pieces .now in
-    let asked = c .before .before .before .before .before .before .before .read-offer in
+    let asked = c .before .before .before .before .before .before .before .before .before .read-offer in
     let is : asked .result ≡ offerFrom (piece (l .i) p) = rw (piece-is (l .i) p) at (asked .ensures) in
-    let most = c .before .before .before .before .before .before .before .before .before .before .before .room-of .ensures ∙ ap roomOf (sym (l .inv .1)) in
-    let took = rw most at (c .before .before .before .take-one .ensures (l .session .entries)) in
+    let most = c .before .before .before .before .before .before .before .before .before .before .before .before .before .before .before .before .before .before .before .room-of .ensures ∙ ap roomOf (sym (l .inv .1)) in
+    let took = rw (l .inv .2, most) at (c .before .before .before .take-one .ensures (l .session .entries)) in
     let here = ap (verdictIn (over (l .session) (l .journal))) (sym is) in
     bursts (bursting-refused (a .t1) (a .journal .now) (offersFrom p) (l .session) (l .journal) (l .i) (offerFrom (piece (l .i) p)) (leftFrom p (l .i + 1)) (rw (left-one p (l .i) more) at (l .inv .0)) _ (here ∙ took .refuses (c .if1 .taken)))
 
 write-command-requires : tie.Need-write-command-requires Inv-loop μ-loop
 write-command-requires c κs =
-    let l = c .before .before .before .before .before .before .before .before .before .before .before .before .before .loop in
-    let most = c .before .before .before .before .before .before .before .before .before .before .before .before .before .before .room-of .ensures ∙ ap roomOf (sym (l .inv .1)) in
-    let took = rw most at (c .before .before .before .before .before .before .take-one .ensures (l .session .entries)) in
+    let l = c .before .before .before .before .before .before .before .before .before .before .before .before .before .before .before .loop in
+    let most = c .before .before .before .before .before .before .before .before .before .before .before .before .before .before .before .before .before .before .before .before .before .before .room-of .ensures ∙ ap roomOf (sym (l .inv .1)) in
+    let took = rw (l .inv .2, most) at (c .before .before .before .before .before .before .take-one .ensures (l .session .entries)) in
     omega (arith, took .free (c .before .before .before .if1 .left))
 
 mul-entry : tie.Need-mul-entry Inv-loop μ-loop
@@ -86,26 +97,36 @@ mul-stamp c = omega (arith, (c .before .before .before .before .before .before .
 element-set-from-stamp : tie.Need-element-set-from-stamp Inv-loop μ-loop
 element-set-from-stamp c = omega (arith, (c .before .before .before .before .before .before .before .before .before .before .before .take-one .ensures []) .slot)
 
+mul-last : tie.Need-mul-last Inv-loop μ-loop
+mul-last c = omega (arith, (c .before .before .before .before .before .before .before .before .before .before .before .take-one .ensures []) .slot)
+
+array-write-last : tie.Need-array-write-last Inv-loop μ-loop
+array-write-last c = omega (arith, (c .before .before .before .before .before .before .before .before .before .before .before .take-one .ensures []) .slot)
+
 add-i : tie.Need-add-i Inv-loop μ-loop
-add-i c = omega (arith, c .before .before .before .before .before .before .before .before .before .before .before .before .before .before .before .before .before .before .loop-test .taken, c .before .before .before .before .before .before .before .before .before .before .before .before .before .before .before .before .before .before .before .before .before .before .before .good .1 .1 .0)
+add-i c = omega (arith, c .before .before .before .before .before .before .before .before .before .before .before .before .before .before .before .before .before .before .before .before .loop-test .taken, c .before .before .before .before .before .before .before .before .before .before .before .before .before .before .before .before .before .before .before .before .before .before .before .before .before .before .before .before .before .before .before .good .1 .1 .0)
 
 loop-less : tie.Need-loop-less Inv-loop μ-loop
-loop-less c = omega (arith, c .before .before .before .before .before .before .before .before .before .before .before .before .before .before .before .before .before .before .loop-test .taken)
+loop-less c = omega (arith, c .before .before .before .before .before .before .before .before .before .before .before .before .before .before .before .before .before .before .before .before .loop-test .taken)
 
 loop-again : tie.Need-loop-again Inv-loop μ-loop
 loop-again c =
-    let a = c .before .before .before .before .before .before .before .before .before .before .before .before .before .before .before .before .before .before .before .before .before .before .before .args in
-    let l = c .before .before .before .before .before .before .before .before .before .before .before .before .before .before .before .before .before .before .before .loop in
-    let more = c .before .before .before .before .before .before .before .before .before .before .before .before .before .before .before .before .before .before .loop-test .taken in
+    let a = c .before .before .before .before .before .before .before .before .before .before .before .before .before .before .before .before .before .before .before .before .before .before .before .before .before .before .before .before .before .before .before .args in
+    let l = c .before .before .before .before .before .before .before .before .before .before .before .before .before .before .before .before .before .before .before .before .before .loop in
+    let more = c .before .before .before .before .before .before .before .before .before .before .before .before .before .before .before .before .before .before .before .before .loop-test .taken in
     let p = a .pieces .now in
-    let asked = c .before .before .before .before .before .before .before .before .before .before .before .before .before .before .before .before .read-offer in
+    let asked = c .before .before .before .before .before .before .before .before .before .before .before .before .before .before .before .before .before .before .read-offer in
     let is : asked .result ≡ offerFrom (piece (l .i) p) = rw (piece-is (l .i) p) at (asked .ensures) in
-    let most = c .before .before .before .before .before .before .before .before .before .before .before .before .before .before .before .before .before .before .before .before .room-of .ensures ∙ ap roomOf (sym (l .inv .1)) in
-    let took = rw most at (c .before .before .before .before .before .before .before .before .before .before .before .before .take-one .ensures (l .session .entries)) in
+    let most = c .before .before .before .before .before .before .before .before .before .before .before .before .before .before .before .before .before .before .before .before .before .before .before .before .before .before .before .before .room-of .ensures ∙ ap roomOf (sym (l .inv .1)) in
+    let took = rw (l .inv .2, most) at (c .before .before .before .before .before .before .before .before .before .before .before .before .take-one .ensures (l .session .entries)) in
     let here = ap (verdictIn (over (l .session) (l .journal))) (sym is) in
     let passed = c .before .before .before .before .before .before .before .before .before .if1 .left in
-    let wrote = c .before .before .before .before .before .write-command in
-    (bursting-accepted (a .t1) (a .journal .now) (offersFrom p) (l .session) (l .journal) (l .i) (offerFrom (piece (l .i) p)) (leftFrom p (l .i + 1)) (rw (left-one p (l .i) more) at (l .inv .0)) _ _ _ _ (here ∙ took .takes passed) (took .state) (wrote .ensures), c .before .before .before .before .journal .given ∙ l .inv .1)
+    let wrote = c .before .before .before .before .before .write-command in (
+      bursting-accepted (a .t1) (a .journal .now) (offersFrom p) (l .session) (l .journal) (l .i) (offerFrom (piece (l .i) p)) (leftFrom p (l .i + 1)) (rw (left-one p (l .i) more) at (l .inv .0)) _ _ _ _ (here ∙ took .takes passed) (took .state) (wrote .ensures),
+      c .before .before .before .before .journal .given ∙ l .inv .1,
+      stamps-set (l .last) (l .session .last) _ _ (l .inv .2),
+      l .inv .3,
+    )
 
 plain-requires : tie.Need-plain-requires Inv-loop μ-loop
 plain-requires c κs = search needs
@@ -115,7 +136,7 @@ same-length-2 c = c .before .before .loop .inv .1
 
 returns-2 : tie.Need-returns-2 Inv-loop μ-loop
 returns-2 c =
-    let a = c .before .before .before .before .before .before .args in
+    let a = c .before .before .before .before .before .before .before .before .before .before .before .before .args in
     let l = c .before .before .loop in
     let p = a .pieces .now in
     rw (c .plain .ensures) (bursts (bursting-end (a .t1) (a .journal .now) (offersFrom p) (l .session) (l .journal) (l .i) (rw (left-none p (l .i) (c .before .loop-test .left)) at (l .inv .0))))
@@ -127,6 +148,9 @@ offer-pieces-spec =
     Inv-loop
     μ-loop
     room-of-requires
+    table-requires
+    gap-steps-requires
+    numbers-requires
     loop-holds
     mul-start
     add-end
@@ -142,6 +166,8 @@ offer-pieces-spec =
     element-set-from-entry
     mul-stamp
     element-set-from-stamp
+    mul-last
+    array-write-last
     add-i
     loop-less
     loop-again

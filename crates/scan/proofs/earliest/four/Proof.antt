@@ -10,48 +10,17 @@ use Rattle.scan.proofs.earliest.four.Tie as tie
 number-requires : tie.Need-number-requires
 number-requires c κs = search needs
 
-mul-kept : tie.Need-mul-kept
-mul-kept c = search needs
-
-add-kept : tie.Need-add-kept
-add-kept c = search needs
-
-mul-kept-2 : tie.Need-mul-kept-2
-mul-kept-2 c = search needs
-
-array-copy-out-kept : tie.Need-array-copy-out-kept
-array-copy-out-kept c = search needs
-
-array-copy-out-gap : tie.Need-array-copy-out-gap
-array-copy-out-gap c = search needs
-
 after-requires : tie.Need-after-requires
 after-requires c κs = search needs
 
-step-of-requires : tie.Need-step-of-requires
-step-of-requires c κs = search needs
-
 ask-of-requires : tie.Need-ask-of-requires
-ask-of-requires c κs = (omega (arith, ap (λ (x : ControllerCycles). x .0) (c .before .after .ensures)), c .step-of .ensures .1)
+ask-of-requires c κs = (omega (arith, ap (λ (x : ControllerCycles). x .0) (c .after .ensures)), c .before .before .before .pre)
 
 returns : tie.Need-returns
-returns c = rw (eq-eqb _ _ (sym (c .before .before .before .before .before .before .number .ensures) ∙ c .before .before .before .before .before .if1 .taken)) (c .ask-of .ensures ∙ rw (c .before .before .after .ensures, c .before .step-of .ensures .0))
+returns c = rw (eq-eqb _ _ (sym (c .before .before .before .number .ensures) ∙ c .before .before .if1 .taken)) (c .ask-of .ensures ∙ rw (c .before .after .ensures))
 
 returns-2 : tie.Need-returns-2
 returns-2 c = rw (ne-eqb _ _ (λ e. c .if1 .left (c .before .number .ensures ∙ e)))
 
 pub four-spec : {M : Type 1} → statement M
-four-spec =
-    tie.close
-    (tie.spec
-    number-requires
-    mul-kept
-    add-kept
-    mul-kept-2
-    array-copy-out-kept
-    array-copy-out-gap
-    after-requires
-    step-of-requires
-    ask-of-requires
-    returns
-    returns-2)
+four-spec = tie.close (tie.spec number-requires after-requires ask-of-requires returns returns-2)

@@ -9,7 +9,7 @@ use native.Mathlib.Numerals.{add-one}
 use native.Mathlib.Omega.{arith}
 use lib.Dec.{T, eqb, T-not, lit<}
 use borrow.Author.Tests.{eqb-true}
-use lib.ListN.{length, getD, drop, drop-of-length-le, length-map}
+use lib.ListN.{length, getD, drop, set, drop-of-length-le, length-map}
 use lib.Seq.{drop-cons}
 use lib.WfN.{Nat·lt-wfRel}
 use mir.Syntax.{w64}
@@ -22,7 +22,10 @@ use Rattle.timing.proofs.rules.Command as C
 use Rattle.timing.proofs.rules.Command.Laws as C′
 use Rattle.timing.proofs.clocks.ControllerCycles as Y
 use Rattle.timing.proofs.clocks.ControllerCycles.Laws as Y′
+use Rattle.timing.specs.declared.clocks.ControllerCycles.{ControllerCycles}
 use Rattle.session.specs.declared.stamps.Stamp.{Stamp}
+use Rattle.scan.specs.Rows.{stamps, gapSteps}
+use Rattle.scan.proofs.LentLaws.{stamps-set}
 use Rattle.session.specs.declared.state.Session.{Session}
 use Rattle.session.proofs.state.Session as S
 use Rattle.session.proofs.state.Session.Laws as S′
@@ -45,10 +48,11 @@ use Rattle.judging.proofs.answers.Answer as R
 use Rattle.judging.proofs.answers.Answer.Laws as R′
 use Rattle.statements.specs.Bursts.{Bursts}
 use Rattle.statements.proofs.BurstLaws.{bursts, Bursting, bursting-start, bursting-end, bursting-refused, bursting-accepted}
-use Rattle.bursts.specs.Taken.{Takes, storedIn}
+use Rattle.bursts.specs.Taken.{Takes, TakesAny, storedIn}
 use Rattle.bursts.specs.declared.taken.Taken.{Taken}
 use Rattle.bursts.specs.declared.pieces.Burst.{Burst}
 use Rattle.capi.proofs.Element.{lowered-is, set-is, alone-is}
+use Rattle.capi.proofs.Loan.{IsNumbers, set-numbers}
 use Rattle.bursts.proofs.taken.Taken as K
 use Rattle.bursts.proofs.taken.Taken.Laws as K′
 use Rattle.bursts.proofs.pieces.Burst as B
@@ -73,6 +77,9 @@ IsBurst b = Is B.the-row b (B′.lowered b ∷ [])
 abbrev pub lastVal : List Stamp → Val
 lastVal xs = arrayVal (map Z′.lowered xs)
 
+abbrev pub roundedVal : List ControllerCycles → Val
+roundedVal xs = arrayVal (map Y′.lowered xs)
+
 module _ (o : Offer) (p : IsOffer o) where
   pub cycle-is : Is Y.the-row (o .cycle) (Y′.lowered (o .cycle) ∷ [])
   cycle-is = lowered-is Y.the-row Y′.lowered (Y′.lowers .val-is) (o .cycle) _ (p .1 .1 .1 .1 .1 .0)
@@ -86,6 +93,9 @@ module _ (t : Taken) (k : IsTaken t) where
 
   pub stamp-is : Is Z.the-row (t .stamp) (Z′.lowered (t .stamp) ∷ [])
   stamp-is = lowered-is Z.the-row Z′.lowered (Z′.lowers .val-is) (t .stamp) _ (k .1 .1 .1 .1 .1 .0)
+
+  pub stamp-fits : t .stamp .0 < 2 ^ 64
+  stamp-fits = stamp-is .1 .1 .0 .1
 
   pub entry-is : Is E.the-row (t .entry) (E′.lowered (t .entry) ∷ [])
   entry-is = lowered-is E.the-row E′.lowered (E′.lowers .val-is) (t .entry) _ (k .1 .1 .1 .1 .1 .1 .1 .0)
@@ -108,6 +118,9 @@ module _ (s : Session) (p : IsSession s) where
 
   pub terms-is : Is U.the-row (s .terms) (U′.lowered (s .terms) ∷ [])
   terms-is = lowered-is U.the-row U′.lowered (U′.lowers .val-is) (s .terms) _ (p .1 .1 .1 .1 .1 .0)
+
+  pub rounded-is : Is (Array Y.the-row 20) (s .terms .rounded) (roundedVal (s .terms .rounded) ∷ [])
+  rounded-is = lowered-is (Array Y.the-row 20) roundedVal (array-tells Y.the-row (λ d. Y′.lowered d ∷ []) (Y′.lowers .val-is) 20) (s .terms .rounded) _ (alone-is Y.the-field (Y.the-row .own) (λ x vs i. i) 20 (s .terms .rounded) _ (p .1 .1 .1 .1 .1 .0 .1 .1 .0))
 
   pub records-fit : s .progress .records < 2 ^ 64
   records-fit = p .1 .1 .1 .1 .0 .1 .1 .1 .1 .1 .1 .1 .0 .1
@@ -147,7 +160,7 @@ module _ (t : Taken) where
 abbrev pub no-offer : Offer
 no-offer = record { kind = 0; rank = 0; bank = 0; cycle = record { 0 = 0 } }
 
-module _ (s₀ : Session) (lent : List ℕ) (os : List Offer) where
+module _ (s₀ : Session) (lent : List ℕ) (os : List Offer) (steps : List ℕ) where
   pub record Turn : Type 0 where
     pub session : Session
     pub journal : List ℕ
@@ -156,6 +169,11 @@ module _ (s₀ : Session) (lent : List ℕ) (os : List Offer) where
     pub within : i ≤ length os
     pub same : length journal ≡ length lent
     pub is : IsSession session
+    -- the stamps as the numbers that are lent, and whose steps the others are
+    pub numbers : List ℕ
+    pub numbers-are : stamps numbers ≡ session .last
+    pub are-numbers : IsNumbers w64 224 numbers
+    pub steps-are : steps ≡ gapSteps (session .terms .rounded)
 
   abbrev pub Nearer : Turn → Turn → Type 0
   Nearer t u = length os - t .i < length os - u .i
@@ -163,14 +181,30 @@ module _ (s₀ : Session) (lent : List ℕ) (os : List Offer) where
   pub Nearer-wf : WellFounded Nearer
   Nearer-wf = InvImage·wf (λ (t : Turn). length os - t .i) (Nat·lt-wfRel .wf)
 
-  abbrev pub starts : IsSession s₀ → Turn
-  starts g = record { session = s₀; journal = lent; i = 0; goes = bursting-start s₀ lent os; within = omega arith; same = refl; is = g }
+  abbrev pub starts : IsSession s₀ → (ns : List ℕ) → stamps ns ≡ s₀ .last → IsNumbers w64 224 ns → steps ≡ gapSteps (s₀ .terms .rounded) → Turn
+  starts g ns e k h = record {
+    session = s₀;
+    journal = lent;
+    i = 0;
+    goes = bursting-start s₀ lent os;
+    within = omega arith;
+    same = refl;
+    is = g;
+    numbers = ns;
+    numbers-are = e;
+    are-numbers = k;
+    steps-are = h;
+  }
 
   -- what the function ensures of a burst and the last bytes
   abbrev pub Ends : Burst → List ℕ → Type 0
   Ends b j = Bursts s₀ lent os (b .count) (replyIn (b .answer)) (b .session) j
 
   module _ (t : Turn) where
+    -- what `take_one` ensures, for the state that stands
+    pub took-here : (o : Offer) (room : ℕ) (one : Taken) → TakesAny (stamps (t .numbers)) (t .session .terms) (t .session .progress) o room one → Takes (t .session) o room one
+    took-here o room one took = (rw (t .numbers-are) at took) (t .session .entries)
+
     pub none-left : length os ≤ t .i → Ends (record { session = t .session; count = t .i; answer = none-refused }) (t .journal)
     none-left l = bursts (bursting-end s₀ lent os (t .session) (t .journal) (t .i) (rw (drop-of-length-le os l) at (t .goes)))
 
@@ -204,4 +238,8 @@ module _ (s₀ : Session) (lent : List ℕ) (os : List Offer) where
           within = omega arith;
           same = l ∙ t .same;
           is = stored-is (t .session) (t .is) one k;
+          numbers = set (t .numbers) (one .slot) (one .stamp .0);
+          numbers-are = stamps-set (t .numbers) (t .session .last) (one .slot) (one .stamp) (t .numbers-are);
+          are-numbers = set-numbers w64 224 (t .numbers) (one .slot) (one .stamp .0) (stamp-fits one k) (t .are-numbers);
+          steps-are = t .steps-are;
         }

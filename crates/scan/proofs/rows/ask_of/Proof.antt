@@ -1,8 +1,8 @@
 -- `ask_of` meets its contract.
 use borrow.Author.Tests.{eq-eqb, ne-eqb}
 use borrow.Author.Needs.{needs}
-use Rattle.scan.proofs.earliest.ask_of.Statement.{statement}
-use Rattle.scan.proofs.earliest.ask_of.Tie as tie
+use Rattle.scan.proofs.rows.ask_of.Statement.{statement}
+use Rattle.scan.proofs.rows.ask_of.Tie as tie
 
 returns : tie.Need-returns
 returns c = rw (eq-eqb _ _ (c .if1 .taken))

@@ -1,0 +1,39 @@
+-- `of_preab` meets its contract.
+use mathlib.Core.Path.{sym, _∙_}
+use Rattle.scan.proofs.KindRows.{preab-rows}
+use borrow.Author.Needs.{needs}
+use Rattle.scan.proofs.asks.of_preab.Statement.{statement}
+use Rattle.scan.proofs.asks.of_preab.Tie as tie
+
+flat-row-requires : tie.Need-flat-row-requires
+flat-row-requires c κs = (c .pre .0, rw (c .pre .1) tt)
+
+flat-row-requires-2 : tie.Need-flat-row-requires-2
+flat-row-requires-2 c κs = (c .before .pre .0, rw (c .before .pre .1) tt)
+
+flat-row-requires-3 : tie.Need-flat-row-requires-3
+flat-row-requires-3 c κs = (c .before .before .pre .0, rw (c .before .before .pre .1) tt)
+
+larger-requires : tie.Need-larger-requires
+larger-requires c κs = search needs
+
+larger-requires-2 : tie.Need-larger-requires-2
+larger-requires-2 c κs = search needs
+
+returns : tie.Need-returns
+returns c =
+    let s = c .before .before .before .before .before in
+    c .larger2 .ensures
+    ∙ rw (c .before .larger .ensures, c .before .before .flat-row3 .ensures, c .before .before .before .flat-row2 .ensures, c .before .before .before .before .flat-row .ensures)
+    (sym (preab-rows (s .args .steps .now) (s .args .last .now) (s .args .opening) (s .args .command) (s .pre .0 .no-step) (s .pre .0 .bank-low) (s .pre .1)))
+
+pub of-preab-spec : {M : Type 1} → statement M
+of-preab-spec =
+    tie.close
+    (tie.spec
+    flat-row-requires
+    flat-row-requires-2
+    flat-row-requires-3
+    larger-requires
+    larger-requires-2
+    returns)

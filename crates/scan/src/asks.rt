@@ -1,0 +1,230 @@
+// Which rows can ask of a command, by its kind: a first kind that has no gap to it is left out, one that has a gap within a bank only is
+// looked up there, and the rows of PREAB and REFAB are looked at whole: a state value may have a stamp at any bank.
+ghost use mathlib.Core.Path.{_≡_};
+ghost use mathlib.Core.Logic.{_⊎_};
+ghost use mathlib.Core.Bool.{_||_};
+ghost use Prim.Native.Nat.{ℕ, _+_, _<_, _≤_};
+ghost use lib.Dec.{T};
+ghost use lib.ListN.{getD};
+ghost use Rattle.timing.specs.declared.kinds.CommandKind.the-variants.{Act, Rd, Wr, Prepb, Preab, Refab, Refpb};
+ghost use Rattle.timing.specs.Kinds.{allBanks};
+ghost use Rattle.timing.specs.Table.{gapTable};
+ghost use Rattle.session.specs.State.{slots};
+ghost use Rattle.scan.specs.Rows.{stepFrom, rowOf, bankAsk, rowAsk, rankAsk, Ready};
+use crate::rows::ask_of;
+use crate::rows::flat_ask;
+use crate::rows::kept_at;
+use crate::rows::larger;
+use crate::rows::near_ask;
+use session::state::RANK_SLOTS;
+use session::state::SLOTS;
+use timing::kinds::CommandKind;
+use timing::rules::Command;
+use timing::rules::Opening;
+use timing::rules::class_for;
+use timing::table::gap_number;
+use timing::table::place_of;
+
+fn step(
+    table: &[u8; 294],
+    steps: &[u64; 21],
+    opening: Opening,
+    first: CommandKind,
+    second: CommandKind,
+    near: usize,
+) -> u64
+    requires { ⌜ (now table ≡ gapTable) × ((i : ℕ) → getD (now steps) i 0 < 2097152) ⌝ }
+    requires { ⌜ near < 3 ⌝ }
+    ensures { λ r. ⌜ (r ≡ stepFrom (now (steps .entry)) opening first second near) × (r < 2097152) ⌝ }
+{
+    let class = class_for(first, second, near);
+    let n = gap_number(table, opening, class, first, second);
+    steps[n]
+}
+
+fn row_of(command: Command, first: CommandKind) -> usize
+    ensures { λ r. ⌜ (r ≡ rowOf command first) × (r + 16 ≤ slots) ⌝ }
+{
+    command.rank as usize % 2 * RANK_SLOTS + place_of(first) * 16
+}
+
+// A kind that asks within a bank only.
+fn one_bank(
+    table: &[u8; 294],
+    steps: &[u64; 21],
+    last: &[u64; SLOTS],
+    opening: Opening,
+    command: Command,
+    first: CommandKind,
+) -> u64
+    requires { ⌜ Ready (now table) (now steps) command ⌝ }
+    ensures { λ r. ⌜ r ≡ bankAsk (now (steps .entry)) (now (last .entry)) opening command first (command .bank) ⌝ }
+{
+    let second = command.kind;
+    let at = row_of(command, first) + command.bank as usize;
+    ask_of(
+        kept_at(last, at),
+        step(table, steps, opening, first, second, 0),
+    )
+}
+
+fn whole_row(
+    table: &[u8; 294],
+    steps: &[u64; 21],
+    last: &[u64; SLOTS],
+    opening: Opening,
+    command: Command,
+    first: CommandKind,
+) -> u64
+    requires { ⌜ Ready (now table) (now steps) command ⌝ }
+    ensures { λ r. ⌜ r ≡ rowAsk (now (steps .entry)) (now (last .entry)) opening command first ⌝ }
+{
+    let second = command.kind;
+    let bank = command.bank;
+    let own = step(table, steps, opening, first, second, 0);
+    let mate = step(table, steps, opening, first, second, 1);
+    let others = step(table, steps, opening, first, second, 2);
+    near_ask(last, row_of(command, first), bank, own, mate, others)
+}
+
+fn flat_row(
+    table: &[u8; 294],
+    steps: &[u64; 21],
+    last: &[u64; SLOTS],
+    opening: Opening,
+    command: Command,
+    first: CommandKind,
+) -> u64
+    requires { ⌜ Ready (now table) (now steps) command ⌝ }
+    requires { ⌜ T (allBanks first || allBanks (command .kind)) ⌝ }
+    ensures { λ r. ⌜ r ≡ rowAsk (now (steps .entry)) (now (last .entry)) opening command first ⌝ }
+{
+    let second = command.kind;
+    let all = step(table, steps, opening, first, second, 2);
+    flat_ask(last, row_of(command, first), all)
+}
+
+fn of_act(
+    table: &[u8; 294],
+    steps: &[u64; 21],
+    last: &[u64; SLOTS],
+    opening: Opening,
+    command: Command,
+) -> u64
+    requires { ⌜ Ready (now table) (now steps) command ⌝ }
+    requires { ⌜ command .kind ≡ Act ⌝ }
+    ensures { λ r. ⌜ r ≡ rankAsk (now (steps .entry)) (now (last .entry)) opening command ⌝ }
+{
+    let act = whole_row(table, steps, last, opening, command, CommandKind::Act);
+    let prepb = one_bank(table, steps, last, opening, command, CommandKind::Prepb);
+    let preab = flat_row(table, steps, last, opening, command, CommandKind::Preab);
+    let refab = flat_row(table, steps, last, opening, command, CommandKind::Refab);
+    let refpb = one_bank(table, steps, last, opening, command, CommandKind::Refpb);
+    larger(larger(larger(larger(act, prepb), preab), refab), refpb)
+}
+
+fn of_data(
+    table: &[u8; 294],
+    steps: &[u64; 21],
+    last: &[u64; SLOTS],
+    opening: Opening,
+    command: Command,
+) -> u64
+    requires { ⌜ Ready (now table) (now steps) command ⌝ }
+    requires { ⌜ (command .kind ≡ Rd) ⊎ (command .kind ≡ Wr) ⌝ }
+    ensures { λ r. ⌜ r ≡ rankAsk (now (steps .entry)) (now (last .entry)) opening command ⌝ }
+{
+    let act = one_bank(table, steps, last, opening, command, CommandKind::Act);
+    let rd = whole_row(table, steps, last, opening, command, CommandKind::Rd);
+    let wr = whole_row(table, steps, last, opening, command, CommandKind::Wr);
+    larger(larger(act, rd), wr)
+}
+
+fn of_prepb(
+    table: &[u8; 294],
+    steps: &[u64; 21],
+    last: &[u64; SLOTS],
+    opening: Opening,
+    command: Command,
+) -> u64
+    requires { ⌜ Ready (now table) (now steps) command ⌝ }
+    requires { ⌜ command .kind ≡ Prepb ⌝ }
+    ensures { λ r. ⌜ r ≡ rankAsk (now (steps .entry)) (now (last .entry)) opening command ⌝ }
+{
+    let act = one_bank(table, steps, last, opening, command, CommandKind::Act);
+    let rd = one_bank(table, steps, last, opening, command, CommandKind::Rd);
+    let wr = one_bank(table, steps, last, opening, command, CommandKind::Wr);
+    let prepb = whole_row(table, steps, last, opening, command, CommandKind::Prepb);
+    larger(larger(larger(act, rd), wr), prepb)
+}
+
+fn of_preab(
+    table: &[u8; 294],
+    steps: &[u64; 21],
+    last: &[u64; SLOTS],
+    opening: Opening,
+    command: Command,
+) -> u64
+    requires { ⌜ Ready (now table) (now steps) command ⌝ }
+    requires { ⌜ command .kind ≡ Preab ⌝ }
+    ensures { λ r. ⌜ r ≡ rankAsk (now (steps .entry)) (now (last .entry)) opening command ⌝ }
+{
+    let act = flat_row(table, steps, last, opening, command, CommandKind::Act);
+    let rd = flat_row(table, steps, last, opening, command, CommandKind::Rd);
+    let wr = flat_row(table, steps, last, opening, command, CommandKind::Wr);
+    larger(larger(act, rd), wr)
+}
+
+fn of_refab(
+    table: &[u8; 294],
+    steps: &[u64; 21],
+    last: &[u64; SLOTS],
+    opening: Opening,
+    command: Command,
+) -> u64
+    requires { ⌜ Ready (now table) (now steps) command ⌝ }
+    requires { ⌜ command .kind ≡ Refab ⌝ }
+    ensures { λ r. ⌜ r ≡ rankAsk (now (steps .entry)) (now (last .entry)) opening command ⌝ }
+{
+    let preab = flat_row(table, steps, last, opening, command, CommandKind::Preab);
+    let refab = flat_row(table, steps, last, opening, command, CommandKind::Refab);
+    larger(preab, refab)
+}
+
+fn of_refpb(
+    table: &[u8; 294],
+    steps: &[u64; 21],
+    last: &[u64; SLOTS],
+    opening: Opening,
+    command: Command,
+) -> u64
+    requires { ⌜ Ready (now table) (now steps) command ⌝ }
+    requires { ⌜ command .kind ≡ Refpb ⌝ }
+    ensures { λ r. ⌜ r ≡ rankAsk (now (steps .entry)) (now (last .entry)) opening command ⌝ }
+{
+    let prepb = one_bank(table, steps, last, opening, command, CommandKind::Prepb);
+    let refpb = whole_row(table, steps, last, opening, command, CommandKind::Refpb);
+    larger(prepb, refpb)
+}
+
+pub fn of_rank(
+    table: &[u8; 294],
+    steps: &[u64; 21],
+    last: &[u64; SLOTS],
+    opening: Opening,
+    command: Command,
+) -> u64
+    requires { ⌜ Ready (now table) (now steps) command ⌝ }
+    ensures { λ r. ⌜ r ≡ rankAsk (now (steps .entry)) (now (last .entry)) opening command ⌝ }
+{
+    let kind = command.kind;
+    match kind {
+        CommandKind::Act => of_act(table, steps, last, opening, command),
+        CommandKind::Rd => of_data(table, steps, last, opening, command),
+        CommandKind::Wr => of_data(table, steps, last, opening, command),
+        CommandKind::Prepb => of_prepb(table, steps, last, opening, command),
+        CommandKind::Preab => of_preab(table, steps, last, opening, command),
+        CommandKind::Refab => of_refab(table, steps, last, opening, command),
+        CommandKind::Refpb => of_refpb(table, steps, last, opening, command),
+    }
+}
