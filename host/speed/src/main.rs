@@ -8,6 +8,7 @@ use rossinhiu::ffi::Command;
 use rossinhiu::{checker, ffi};
 use rossinhiu_model::generate::SETTINGS_A;
 use rossinhiu_model::model::{MOST_RECORDS, RECORD};
+use rossinhiu_speed::dice::Dice;
 use rossinhiu_speed::{source000, twin};
 use std::hint::black_box;
 use std::time::Instant;
@@ -34,39 +35,9 @@ const CALLS: Table = Table {
     columns: &[TWIN, BY_VALUE, SOURCE, BYTES],
 };
 
-/// A small generator of numbers; the same on every machine.
-struct Dice(u64);
-
-impl Dice {
-    fn below(&mut self, n: u64) -> u64 {
-        self.0 ^= self.0 << 13;
-        self.0 ^= self.0 >> 7;
-        self.0 ^= self.0 << 17;
-        (self.0 >> 11) % n
-    }
-
-    fn command(&mut self) -> Command {
-        let kind = [
-            1, 1, 1, 1, 1, 2, 2, 2, 2, 2, 2, 3, 3, 3, 3, 4, 4, 4, 7, 7, 5, 6,
-        ];
-        let kind = kind[self.below(22) as usize];
-        let bank = if kind == 5 || kind == 6 {
-            0
-        } else {
-            self.below(16)
-        };
-        Command {
-            kind,
-            rank: self.below(RANKS),
-            bank,
-            cycle: 0,
-        }
-    }
-}
-
 /// One more command, accepted at its earliest cycle.
 fn played(state: &mut ffi::Session, bytes: &mut [u8], dice: &mut Dice) -> Command {
-    let mut c = dice.command();
+    let mut c = dice.command(RANKS, 0);
     c.cycle = twin::earliest(state, c.kind, c.rank, c.bank).cycle;
     let answer = twin::offer(state, bytes, c.kind, c.rank, c.bank, c.cycle);
     assert_eq!(answer.number, 0);
