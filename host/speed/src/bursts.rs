@@ -1,15 +1,12 @@
-//! A thousand legal commands in one burst, and in shorter ones, per command: the library's two calls beside the twin's loop over the
-//! same list, single offers through C and source 000's design.
+//! The trace in bursts of one size after the other, per command: the library's two calls beside the twin's loop in bursts of the same
+//! size, single offers through C and source 000's design.
 
-use crate::{contender, from_start, offer_each, opened, source_offers, Table};
-use crate::{LIBRARY, SOURCE, TWIN};
+use crate::{contender, from_start, offer_each, opened, room_behind, source_offers, Table};
+use crate::{LIBRARY, OFFERS, SOURCE, TWIN};
 use rossinhiu::checker;
 use rossinhiu::ffi::{Command, Numbers, Session};
 use rossinhiu_model::model::RECORD;
 use rossinhiu_speed::twin;
-use std::cell::RefCell;
-
-pub const LISTED: usize = 1000;
 
 const SINGLE: &str = "single offers through C";
 const BURSTS: Table = Table {
@@ -42,24 +39,20 @@ fn pieces_of(list: &[Command]) -> Vec<u8> {
 
 /// What a play leaves: the state and the journal.
 fn left_by(play: Play) -> (Session, Vec<u8>) {
-    let (mut state, mut room) = (opened(), room());
+    let mut state = opened();
+    let mut room = room_behind(&state).into_inner();
     play(&mut state, &mut room);
     (state, room)
 }
 
-/// The opening and the list, and one record more.
-fn room() -> Vec<u8> {
-    vec![0; (LISTED + 2) * RECORD]
-}
-
 /// A line of the table, once all plays have left the same; each accepts every command or panics.
-fn compare_burst(title: &str, list: &[Command], burst: Play) {
+fn compare_burst(title: &str, list: &[Command], burst: Play, twin: Play) {
     let single: Play = &|state, room| offer_each(state, room, list, checker::offer, 0);
-    let twin: Play = &|state, room| offer_each(state, room, list, twin::offer, 0);
     let left = left_by(twin);
     assert_eq!(left.0.progress.records as usize, list.len() + 1);
     assert!(left == left_by(burst) && left == left_by(single));
-    let (start, room) = (opened(), RefCell::new(room()));
+    let start = opened();
+    let room = room_behind(&start);
     let run = |play: Play| from_start(&start, &mut room.borrow_mut(), list.len(), play);
     BURSTS.compare(
         title,
@@ -76,17 +69,24 @@ fn compare_burst(title: &str, list: &[Command], burst: Play) {
 pub fn compare_bursts(list: &[Command]) {
     BURSTS.head();
     let pieces = pieces_of(list);
-    for size in [LISTED, 256, 64, 16, 4, 1] {
-        compare_burst(&format!("{size} as structs"), list, &|state, room| {
+    for size in [1, 4, 16, 64, 256, OFFERS] {
+        let twin: Play = &|state, room| {
+            for part in list.chunks(size) {
+                assert_all(twin::offer_all(state, room, part), part.len());
+            }
+        };
+        let structs: Play = &|state, room| {
             for part in list.chunks(size) {
                 assert_all(checker::offer_all(state, room, part), part.len());
             }
-        });
-        compare_burst(&format!("{size} as pieces"), list, &|state, room| {
+        };
+        compare_burst(&format!("{size} as structs"), list, structs, twin);
+        let in_pieces: Play = &|state, room| {
             for part in pieces.chunks(size * RECORD) {
                 let done = checker::offer_pieces(state, room, part);
                 assert_all(done, part.len() / RECORD);
             }
-        });
+        };
+        compare_burst(&format!("{size} as pieces"), list, in_pieces, twin);
     }
 }

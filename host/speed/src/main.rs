@@ -1,8 +1,10 @@
 //! The speed of the library's calls beside a plain Rust twin and the checker design of source 000: `cargo run --release --bin speed`
 //! prints the tables of docs/SPEED.md. Every figure is a median of interleaved rounds over the same buffers.
-//! `speed full` adds a journal of 16,777,216 records (1 GiB); `speed bursts` prints the bursts alone.
+//! `speed full` adds a journal of 16,777,216 records (1 GiB). `speed bursts` prints the bursts and the restores alone, `speed history` a
+//! question after ever more records.
 
 mod bursts;
+mod history;
 
 use rossinhiu::ffi::Command;
 use rossinhiu::{checker, ffi};
@@ -10,6 +12,7 @@ use rossinhiu_model::generate::SETTINGS_A;
 use rossinhiu_model::model::{MOST_RECORDS, RECORD};
 use rossinhiu_speed::dice::Dice;
 use rossinhiu_speed::{source000, twin};
+use std::cell::RefCell;
 use std::hint::black_box;
 use std::time::Instant;
 
@@ -215,17 +218,30 @@ fn source_offers(before: &[Command], trace: &[Command]) -> f64 {
     })
 }
 
+/// A round of offers from `start` on, each answered with the number expected.
+fn offers(
+    start: &ffi::Session,
+    room: &RefCell<Vec<u8>>,
+    trace: &[Command],
+    offer: Offer,
+    expect: u64,
+) -> f64 {
+    from_start(start, &mut room.borrow_mut(), trace.len(), |state, room| {
+        offer_each(state, room, trace, offer, expect);
+    })
+}
+
+/// Room behind a state for all offers, and for one more.
+fn room_behind(start: &ffi::Session) -> RefCell<Vec<u8>> {
+    let records = start.progress.records as usize + OFFERS + 1;
+    RefCell::new(vec![0; records * RECORD])
+}
+
 /// The four contenders of an offer, each over the same buffer.
 fn compare_offers(title: &str, start: &ffi::Session, before: &[Command], trace: &[Command]) {
-    let mut room = vec![0; (OFFERS + 2) * RECORD + start.progress.records as usize * RECORD];
-    let room = std::cell::RefCell::new(&mut room[..]);
+    let room = room_behind(start);
     let expect = if before.is_empty() { 0 } else { 7 };
-    let run = |offer: Offer| {
-        let room = &mut room.borrow_mut();
-        from_start(start, room, trace.len(), |state, room| {
-            offer_each(state, room, trace, offer, expect);
-        })
-    };
+    let run = |offer: Offer| offers(start, &room, trace, offer, expect);
     CALLS.compare(
         title,
         201,
@@ -238,19 +254,32 @@ fn compare_offers(title: &str, start: &ffi::Session, before: &[Command], trace: 
     );
 }
 
+type Ask = fn(&ffi::Session, u64, u64, u64) -> ffi::Numbers;
+
 fn earliest_by_value(state: &ffi::Session, kind: u64, rank: u64, bank: u64) -> ffi::Numbers {
     twin::by_value::earliest(*state, kind, rank, bank)
 }
 
+/// A round of questions, one for each command.
+fn questions(state: &ffi::Session, asked: &[Command], ask: Ask) -> f64 {
+    timed(asked.len(), || {
+        for c in asked {
+            black_box(ask(black_box(state), c.kind, c.rank, c.bank));
+        }
+    })
+}
+
+fn source_questions(design: &source000::Checker, asked: &[Command]) -> f64 {
+    timed(asked.len(), || {
+        for c in asked {
+            let (kind, rank, bank) = (c.kind as usize, c.rank as usize, c.bank as usize);
+            black_box(design.earliest(kind, rank, bank));
+        }
+    })
+}
+
 fn compare_earliest(state: &ffi::Session, trace: &[Command]) {
-    type Ask = fn(&ffi::Session, u64, u64, u64) -> ffi::Numbers;
-    let run = |ask: Ask| {
-        timed(trace.len(), || {
-            for c in trace {
-                black_box(ask(black_box(state), c.kind, c.rank, c.bank));
-            }
-        })
-    };
+    let run = |ask: Ask| questions(state, trace, ask);
     let design = design_with(trace);
     CALLS.compare(
         "earliest",
@@ -259,17 +288,7 @@ fn compare_earliest(state: &ffi::Session, trace: &[Command]) {
             contender(LIBRARY, || run(checker::earliest)),
             contender(TWIN, || run(twin::earliest)),
             contender(BY_VALUE, || run(earliest_by_value)),
-            contender(SOURCE, || {
-                timed(trace.len(), || {
-                    for c in trace {
-                        black_box(design.earliest(
-                            c.kind as usize,
-                            c.rank as usize,
-                            c.bank as usize,
-                        ));
-                    }
-                })
-            }),
+            contender(SOURCE, || source_questions(&design, trace)),
         ],
     );
 }
@@ -283,7 +302,7 @@ fn take_back_by_value(state: &mut ffi::Session, journal: &mut [u8]) -> u64 {
 
 fn compare_take_backs(start: &ffi::Session) {
     type TakeBack = fn(&mut ffi::Session, &mut [u8]) -> u64;
-    let room = std::cell::RefCell::new(vec![0; (start.progress.records as usize + 64) * RECORD]);
+    let room = RefCell::new(vec![0; (start.progress.records as usize + 64) * RECORD]);
     let run = |take_back: TakeBack| {
         let room = &mut room.borrow_mut()[..];
         let mut total = 0.0;
@@ -309,25 +328,28 @@ fn compare_take_backs(start: &ffi::Session) {
     );
 }
 
-fn compare_restores(title: &str, rounds: usize, bytes: &[u8]) {
-    type Restore = fn(&[u8]) -> (ffi::Session, u64, u64);
+type Restore = fn(&[u8]) -> (ffi::Session, u64, u64);
+
+/// A round of one restore, for each record.
+fn restored(bytes: &[u8], restore: Restore) -> f64 {
     let records = bytes.len() / RECORD;
-    let run = |restore: Restore| {
-        timed(records, || {
-            let (state, number, record) = restore(black_box(bytes));
-            let restored = state.progress.records as usize;
-            assert_eq!((number, record, restored), (0, 0, records));
-            black_box(&state);
-        })
-    };
+    timed(records, || {
+        let (state, number, record) = restore(black_box(bytes));
+        let restored = state.progress.records as usize;
+        assert_eq!((number, record, restored), (0, 0, records));
+        black_box(&state);
+    })
+}
+
+fn compare_restores(title: &str, rounds: usize, bytes: &[u8]) {
     CALLS.compare(
         title,
         rounds,
         vec![
-            contender(LIBRARY, || run(checker::restore)),
-            contender(TWIN, || run(twin::restore)),
+            contender(LIBRARY, || restored(bytes, checker::restore)),
+            contender(TWIN, || restored(bytes, twin::restore)),
             contender(BYTES, || {
-                timed(records, || {
+                timed(bytes.len() / RECORD, || {
                     let words = bytes
                         .chunks_exact(8)
                         .map(|w| u64::from_le_bytes(w.try_into().unwrap()));
@@ -338,10 +360,19 @@ fn compare_restores(title: &str, rounds: usize, bytes: &[u8]) {
     );
 }
 
+/// Two journals of 100,000 records; the second one.
+fn compare_short_restores() -> Vec<u8> {
+    let bytes = journal(100_000, 2);
+    compare_restores("restore, every second record a take-back", 31, &bytes);
+    let bytes = journal(100_000, 97);
+    compare_restores("restore, a record of 100,000", 31, &bytes);
+    bytes
+}
+
 fn compare_listings(bytes: &[u8]) {
     type List = fn(&mut ffi::Session, &[u8], bool, &mut [u8]) -> (usize, bool);
     let part = 1024 * RECORD;
-    let out = std::cell::RefCell::new(vec![0; part + 64]);
+    let out = RefCell::new(vec![0; part + 64]);
     let run = |list: List| {
         let out = &mut out.borrow_mut()[..];
         let mut state = twin::fresh();
@@ -382,20 +413,23 @@ fn too_early(state: &ffi::Session, trace: &[Command]) -> Vec<Command> {
     early
 }
 
+/// The state after the whole trace.
+fn played_out(trace: &[Command]) -> ffi::Session {
+    let mut state = opened();
+    let mut room = vec![0; (OFFERS + 1) * RECORD];
+    offer_each(&mut state, &mut room, trace, twin::offer, 0);
+    state
+}
+
 fn compare_calls(trace: &[Command], full: bool) {
     CALLS.head();
     compare_offers("accepted offer", &opened(), &[], trace);
-    let mut room = vec![0; (OFFERS + 1) * RECORD];
-    let mut state = opened();
-    offer_each(&mut state, &mut room, trace, twin::offer, 0);
+    let state = played_out(trace);
     let early = too_early(&state, trace);
     compare_offers("refused offer (7)", &state, trace, &early);
     compare_earliest(&state, trace);
     compare_take_backs(&state);
-    let bytes = journal(100_000, 2);
-    compare_restores("restore, every second record a take-back", 31, &bytes);
-    let bytes = journal(100_000, 97);
-    compare_restores("restore, a record of 100,000", 31, &bytes);
+    let bytes = compare_short_restores();
     compare_listings(&bytes);
     if full {
         let bytes = journal(MOST_RECORDS, 97);
@@ -412,8 +446,17 @@ fn compare_calls(trace: &[Command], full: bool) {
 fn main() {
     let word = std::env::args().nth(1).unwrap_or_default();
     let trace = trace();
-    if word != "bursts" {
-        compare_calls(&trace, word == "full");
+    match word.as_str() {
+        "bursts" => {
+            bursts::compare_bursts(&trace);
+            println!();
+            CALLS.head();
+            compare_short_restores();
+        }
+        "history" => history::compare_history(),
+        _ => {
+            compare_calls(&trace, word == "full");
+            bursts::compare_bursts(&trace);
+        }
     }
-    bursts::compare_bursts(&trace[..bursts::LISTED]);
 }
