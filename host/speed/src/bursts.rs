@@ -18,7 +18,7 @@ const BURSTS: Table = Table {
 type Play<'a> = &'a dyn Fn(&mut Session, &mut [u8]);
 
 /// Every command of so many was accepted.
-fn assert_all(done: (u64, Numbers), listed: usize) {
+pub fn assert_all(done: (u64, Numbers), listed: usize) {
     let none = Numbers {
         number: 0,
         cycle: 0,

@@ -1,9 +1,11 @@
 //! The speed of the library's calls beside a plain Rust twin and the checker design of source 000: `cargo run --release --bin speed`
 //! prints the tables of docs/SPEED.md. Every figure is a median of interleaved rounds over the same buffers.
 //! `speed full` adds a journal of 16,777,216 records (1 GiB). `speed bursts` prints the bursts and the restores alone, `speed history` a
-//! question after ever more records.
+//! question after ever more records, `speed before` the library beside that of an earlier commit.
 
 mod bursts;
+#[cfg(before)]
+mod change;
 mod history;
 
 use rossinhiu::ffi::Command;
@@ -443,6 +445,17 @@ fn compare_calls(trace: &[Command], full: bool) {
     println!();
 }
 
+#[cfg(before)]
+fn compare_change(trace: &[Command]) {
+    change::compare_change(trace);
+}
+
+#[cfg(not(before))]
+fn compare_change(_: &[Command]) {
+    eprintln!("Built without it: let ROSSINHIU_BEFORE name the libcapi.a of an earlier commit.");
+    std::process::exit(2);
+}
+
 fn main() {
     let word = std::env::args().nth(1).unwrap_or_default();
     let trace = trace();
@@ -454,6 +467,7 @@ fn main() {
             compare_short_restores();
         }
         "history" => history::compare_history(),
+        "before" => compare_change(&trace),
         _ => {
             compare_calls(&trace, word == "full");
             bursts::compare_bursts(&trace);
