@@ -10,7 +10,6 @@ use lib.Dec.{T, eqb, ltb}
 use lib.ListN.{getD}
 use borrow.Author.Tests.{eq-eqb, eqb-true, eqb-false, ne-eqb, ltb-true, ltb-false}
 use Rattle.timing.specs.declared.kinds.CommandKind.{CommandKind}
-use Rattle.timing.specs.declared.rules.Command.{Command}
 use Rattle.timing.specs.declared.rules.Opening.{Opening}
 use Rattle.timing.specs.Kinds.{allBanks}
 use Rattle.timing.specs.Rules.{groupOf, nearness, classFor}
@@ -144,92 +143,95 @@ module _ (last : List ℕ) (row : ℕ) where
         at : (k : ℕ) → 0 < k → k < 4 → askOf (fourKept last row ((own + k) % 4)) s ≤ w
         at k some few = four-most ((own + k) % 4) (λ i e. all i (omega (arith, e)) (λ z. omega (arith, e, z)))
 
-module _ (steps last : List ℕ) (o : Opening) (c : Command) (first : CommandKind) where
+module _ (steps last : List ℕ) (o : Opening) (second : CommandKind) (spot : ℕ) (first : CommandKind) where
+  abbrev bank : ℕ
+  bank = spot % 16
+
   abbrev ask : ℕ → ℕ
-  ask = bankAsk steps last o c first
+  ask = bankAsk steps last o second spot first
 
   abbrev step : ℕ → ℕ
-  step = stepFrom steps o first (c .kind)
+  step = stepFrom steps o first second
 
   abbrev row : ℕ
-  row = rowOf c first
+  row = rowOf spot first
 
   abbrev kept : ℕ → ℕ
   kept i = keptAt last (row + i)
 
   abbrev others : ℕ
-  others = max (farKept last row (c .bank / 4)) (pairKept last row (pairBeside (c .bank)))
+  others = max (farKept last row (bank / 4)) (pairKept last row (pairBeside bank))
 
   -- a bank's ask, by its nearness
-  ask-own : ask (c .bank) ≡ askOf (kept (c .bank)) (step 0)
-  ask-own = rw (eq-eqb (c .bank) (c .bank) refl)
+  ask-own : ask bank ≡ askOf (kept bank) (step 0)
+  ask-own = rw (eq-eqb bank bank refl)
 
-  ask-mate : ask (mate (c .bank)) ≡ askOf (kept (mate (c .bank))) (step 1)
-  ask-mate = rw (mate-near o (c .bank))
+  ask-mate : ask (mate bank) ≡ askOf (kept (mate bank)) (step 1)
+  ask-mate = rw (mate-near o bank)
 
-  ask-far : (i : ℕ) → groupOf o i ≢ groupOf o (c .bank) → ask i ≡ askOf (kept i) (step 2)
-  ask-far i n = rw (ne-eqb i (c .bank) (λ z. n (ap (groupOf o) z)), ne-eqb (groupOf o i) (groupOf o (c .bank)) n)
+  ask-far : (i : ℕ) → groupOf o i ≢ groupOf o bank → ask i ≡ askOf (kept i) (step 2)
+  ask-far i n = rw (ne-eqb i bank (λ z. n (ap (groupOf o) z)), ne-eqb (groupOf o i) (groupOf o bank) n)
 
   -- a row whole, by its newest stamp for each nearness
   abbrev three : ℕ
-  three = max (ask (c .bank)) (max (askOf (kept (mate (c .bank))) (step 1)) (askOf others (step 2)))
+  three = max (ask bank) (max (askOf (kept (mate bank)) (step 1)) (askOf others (step 2)))
 
-  module _ (l : c .bank < 16) where
-    far-low : c .bank / 4 < 4
+  module _ (l : bank < 16) where
+    far-low : bank / 4 < 4
     far-low = omega arith
 
-    others-above : (i : ℕ) → i < 16 → groupOf o i ≢ groupOf o (c .bank) → kept i ≤ others
-    others-above i m n = go (eqb (i / 4) (c .bank / 4)) refl
+    others-above : (i : ℕ) → i < 16 → groupOf o i ≢ groupOf o bank → kept i ≤ others
+    others-above i m n = go (eqb (i / 4) (bank / 4)) refl
       where
-        go : (t : Bool) → eqb (i / 4) (c .bank / 4) ≡ t → kept i ≤ others
+        go : (t : Bool) → eqb (i / 4) (bank / 4) ≡ t → kept i ≤ others
         go true e =
-            let is = beside-or-far o i (c .bank) n (eqb-true (i / 4) (c .bank / 4) e) in
-            le-trans (rw is at (pair-above last row i)) (le-max-right (farKept last row (c .bank / 4)) (pairKept last row (pairBeside (c .bank))))
+            let is = beside-or-far o i bank n (eqb-true (i / 4) (bank / 4) e) in
+            le-trans (rw is at (pair-above last row i)) (le-max-right (farKept last row (bank / 4)) (pairKept last row (pairBeside bank)))
         go false e =
-            le-trans (far-above last row (c .bank / 4) far-low i m (eqb-false (i / 4) (c .bank / 4) e))
-            (le-max-left (farKept last row (c .bank / 4)) (pairKept last row (pairBeside (c .bank))))
+            le-trans (far-above last row (bank / 4) far-low i m (eqb-false (i / 4) (bank / 4) e))
+            (le-max-left (farKept last row (bank / 4)) (pairKept last row (pairBeside bank)))
 
     others-most : askOf others (step 2) ≤ maxTo ask 16
     others-most =
-        let from : (i : ℕ) → i < 16 → groupOf o i ≢ groupOf o (c .bank) → askOf (kept i) (step 2) ≤ maxTo ask 16 = λ i m n. rw (ask-far i n) at (max-above ask 16 i m) in
-        ask-either (farKept last row (c .bank / 4)) (pairKept last row (pairBeside (c .bank))) (step 2) (maxTo ask 16)
-        (far-most last row (step 2) (maxTo ask 16) (c .bank / 4) far-low (λ i m n. from i m (far-group o i (c .bank) n)))
-        (pair-most last row (step 2) (maxTo ask 16) (pairBeside (c .bank)) (λ i e. from i (omega (arith, e)) (beside-group o i (c .bank) e)))
+        let from : (i : ℕ) → i < 16 → groupOf o i ≢ groupOf o bank → askOf (kept i) (step 2) ≤ maxTo ask 16 = λ i m n. rw (ask-far i n) at (max-above ask 16 i m) in
+        ask-either (farKept last row (bank / 4)) (pairKept last row (pairBeside bank)) (step 2) (maxTo ask 16)
+        (far-most last row (step 2) (maxTo ask 16) (bank / 4) far-low (λ i m n. from i m (far-group o i bank n)))
+        (pair-most last row (step 2) (maxTo ask 16) (pairBeside bank) (λ i e. from i (omega (arith, e)) (beside-group o i bank e)))
 
     ask-three : (i : ℕ) → i < 16 → ask i ≤ three
-    ask-three i m = go (eqb i (c .bank)) (eqb (groupOf o i) (groupOf o (c .bank))) refl refl
+    ask-three i m = go (eqb i bank) (eqb (groupOf o i) (groupOf o bank)) refl refl
       where
-        go : (x y : Bool) → eqb i (c .bank) ≡ x → eqb (groupOf o i) (groupOf o (c .bank)) ≡ y → ask i ≤ three
-        go true y p q = let is = eqb-true i (c .bank) p in rw is (le-max-left (ask (c .bank)) (max (askOf (kept (mate (c .bank))) (step 1)) (askOf others (step 2))))
+        go : (x y : Bool) → eqb i bank ≡ x → eqb (groupOf o i) (groupOf o bank) ≡ y → ask i ≤ three
+        go true y p q = let is = eqb-true i bank p in rw is (le-max-left (ask bank) (max (askOf (kept (mate bank)) (step 1)) (askOf others (step 2))))
         go false true p q =
-            let is = mate-only o i (c .bank) (eqb-false i (c .bank) p) (eqb-true (groupOf o i) (groupOf o (c .bank)) q) in
-            let here : ask i ≡ askOf (kept (mate (c .bank))) (step 1) = ap ask is ∙ ask-mate in
+            let is = mate-only o i bank (eqb-false i bank p) (eqb-true (groupOf o i) (groupOf o bank) q) in
+            let here : ask i ≡ askOf (kept (mate bank)) (step 1) = ap ask is ∙ ask-mate in
             rw here
-            (le-trans (le-max-left (askOf (kept (mate (c .bank))) (step 1)) (askOf others (step 2))) (le-max-right (ask (c .bank)) (max (askOf (kept (mate (c .bank))) (step 1)) (askOf others (step 2)))))
+            (le-trans (le-max-left (askOf (kept (mate bank)) (step 1)) (askOf others (step 2))) (le-max-right (ask bank) (max (askOf (kept (mate bank)) (step 1)) (askOf others (step 2)))))
         go false false p q =
-            let n = eqb-false (groupOf o i) (groupOf o (c .bank)) q in
+            let n = eqb-false (groupOf o i) (groupOf o bank) q in
             rw (ask-far i n)
             (le-trans (ask-mono (kept i) others (step 2) (others-above i m n))
-            (le-trans (le-max-right (askOf (kept (mate (c .bank))) (step 1)) (askOf others (step 2))) (le-max-right (ask (c .bank)) (max (askOf (kept (mate (c .bank))) (step 1)) (askOf others (step 2))))))
+            (le-trans (le-max-right (askOf (kept (mate bank)) (step 1)) (askOf others (step 2))) (le-max-right (ask bank) (max (askOf (kept (mate bank)) (step 1)) (askOf others (step 2))))))
 
-    pub near-whole : nearAsk last row (c .bank) (step 0) (step 1) (step 2) ≡ rowAsk steps last o c first
+    pub near-whole : nearAsk last row bank (step 0) (step 1) (step 2) ≡ rowAsk steps last o second spot first
     unfolding rowAsk
     near-whole =
         rw (sym ask-own)
         (le-antisymm
-        (max-le (max-above ask 16 (c .bank) l) (max-le (rw ask-mate at (max-above ask 16 (mate (c .bank)) (mate-low (c .bank) l))) others-most))
+        (max-le (max-above ask 16 bank l) (max-le (rw ask-mate at (max-above ask 16 (mate bank) (mate-low bank l))) others-most))
         (max-most ask three 16 ask-three))
 
   -- a row whole where either kind names no bank
   abbrev newest : ℕ
   newest = max (farKept last row 0) (fourKept last row 0)
 
-  pub flat-whole : T (allBanks first || allBanks (c .kind)) → askOf newest (step 2) ≡ rowAsk steps last o c first
+  pub flat-whole : T (allBanks first || allBanks second) → askOf newest (step 2) ≡ rowAsk steps last o second spot first
   unfolding rowAsk
   flat-whole t = le-antisymm high (max-most ask _ 16 low)
     where
       ask-flat : (i : ℕ) → ask i ≡ askOf (kept i) (step 2)
-      ask-flat i = rw (true-is (allBanks first || allBanks (c .kind)) t)
+      ask-flat i = rw (true-is (allBanks first || allBanks second) t)
 
       above : (i : ℕ) → i < 16 → kept i ≤ max (farKept last row 0) (fourKept last row 0)
       above i m = go (eqb (i / 4) 0) refl
@@ -251,32 +253,32 @@ module _ (steps last : List ℕ) (o : Opening) (c : Command) (first : CommandKin
 
   -- a kind that asks of no other bank, and one that asks of none
   abbrev pub alone : Bool
-  alone = silent (classFor first (c .kind) 1) first (c .kind) && silent (classFor first (c .kind) 2) first (c .kind)
+  alone = silent (classFor first second 1) first second && silent (classFor first second 2) first second
 
   module _ (none : getD steps 0 0 ≡ 0) where
-    step-none : (near : ℕ) → T (silent (classFor first (c .kind) near) first (c .kind)) → step near ≡ 0
-    step-none near t = ap (λ (n : ℕ). getD steps n 0) (silent-gap (classFor first (c .kind) near) first (c .kind) o t) ∙ none
+    step-none : (near : ℕ) → T (silent (classFor first second near) first second) → step near ≡ 0
+    step-none near t = ap (λ (n : ℕ). getD steps n 0) (silent-gap (classFor first second near) first second o t) ∙ none
 
-    others-still : T alone → (i : ℕ) → i ≢ c .bank → ask i ≡ 0
-    others-still t i n = go (eqb (groupOf o i) (groupOf o (c .bank))) refl
+    others-still : T alone → (i : ℕ) → i ≢ bank → ask i ≡ 0
+    others-still t i n = go (eqb (groupOf o i) (groupOf o bank)) refl
       where
-        go : (y : Bool) → eqb (groupOf o i) (groupOf o (c .bank)) ≡ y → ask i ≡ 0
-        go true q = rw (ne-eqb i (c .bank) n, q) (ask-still (kept i) (step 1) (step-none 1 (and-left (silent (classFor first (c .kind) 1) first (c .kind)) (silent (classFor first (c .kind) 2) first (c .kind)) t)))
-        go false q = rw (ne-eqb i (c .bank) n, q) (ask-still (kept i) (step 2) (step-none 2 (and-right (silent (classFor first (c .kind) 1) first (c .kind)) (silent (classFor first (c .kind) 2) first (c .kind)) t)))
+        go : (y : Bool) → eqb (groupOf o i) (groupOf o bank) ≡ y → ask i ≡ 0
+        go true q = rw (ne-eqb i bank n, q) (ask-still (kept i) (step 1) (step-none 1 (and-left (silent (classFor first second 1) first second) (silent (classFor first second 2) first second) t)))
+        go false q = rw (ne-eqb i bank n, q) (ask-still (kept i) (step 2) (step-none 2 (and-right (silent (classFor first second 1) first second) (silent (classFor first second 2) first second) t)))
 
-    pub one-whole : c .bank < 16 → T alone → ask (c .bank) ≡ rowAsk steps last o c first
+    pub one-whole : bank < 16 → T alone → ask bank ≡ rowAsk steps last o second spot first
     unfolding rowAsk
-    one-whole l t = omega (arith, max-above ask 16 (c .bank) l, low)
+    one-whole l t = omega (arith, max-above ask 16 bank l, low)
       where
-        low : maxTo ask 16 ≤ ask (c .bank)
+        low : maxTo ask 16 ≤ ask bank
         low = max-most ask _ 16 at
           where
-            at : (i : ℕ) → i < 16 → ask i ≤ ask (c .bank)
-            at i m = go (eqb i (c .bank)) refl
+            at : (i : ℕ) → i < 16 → ask i ≤ ask bank
+            at i m = go (eqb i bank) refl
               where
-                go : (x : Bool) → eqb i (c .bank) ≡ x → ask i ≤ ask (c .bank)
-                go true p = let is = eqb-true i (c .bank) p in rw is (omega arith)
-                go false p = omega (arith, others-still t i (eqb-false i (c .bank) p))
+                go : (x : Bool) → eqb i bank ≡ x → ask i ≤ ask bank
+                go true p = let is = eqb-true i bank p in rw is (omega arith)
+                go false p = omega (arith, others-still t i (eqb-false i bank p))
 
-    pub none-whole : c .bank < 16 → T (silent (classFor first (c .kind) 0) first (c .kind)) → T alone → rowAsk steps last o c first ≡ 0
-    none-whole l own t = sym (one-whole l t) ∙ ask-own ∙ ask-still (kept (c .bank)) (step 0) (step-none 0 own)
+    pub none-whole : bank < 16 → T (silent (classFor first second 0) first second) → T alone → rowAsk steps last o second spot first ≡ 0
+    none-whole l own t = sym (one-whole l t) ∙ ask-own ∙ ask-still (kept bank) (step 0) (step-none 0 own)

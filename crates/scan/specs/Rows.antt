@@ -14,6 +14,7 @@ use Rattle.timing.specs.Kinds.{codeOf, sameKind}
 use Rattle.timing.specs.Rules.{nearness, classFor, tableGap, kindAt}
 use Rattle.timing.specs.Table.{gapTable}
 use Rattle.session.specs.declared.stamps.Stamp.{Stamp}
+use Rattle.session.specs.declared.state.Progress.{Progress}
 use Rattle.session.specs.declared.state.Terms.{Terms}
 use Rattle.session.specs.Stamps.{stamp, readBack}
 use Rattle.session.specs.State.{rankSlots, stampAt}
@@ -39,28 +40,34 @@ maxTo f (suc n) = max (maxTo f n) (f n)
 abbrev pub stepFrom : List ℕ → Opening → CommandKind → CommandKind → ℕ → ℕ
 stepFrom steps o first second near = getD steps (tableGap o (classFor first second near) first second) 0
 
--- where a first kind's row of the command's rank begins
-abbrev pub rowOf : Command → CommandKind → ℕ
-rowOf c first = c .rank % 2 * rankSlots + (codeOf first - 1) * 16
+-- the bank's spot in its rank's first row, and where a first kind's row of that rank begins
+abbrev pub spotOf : Command → ℕ
+spotOf c = c .rank % 2 * rankSlots + c .bank
+
+abbrev pub rowOf : ℕ → CommandKind → ℕ
+rowOf spot first = spot / 16 * 16 + (codeOf first - 1) * 16
 
 -- bank i of a first kind's row
-abbrev pub bankAsk : List ℕ → List ℕ → Opening → Command → CommandKind → ℕ → ℕ
-bankAsk steps last o c first i = askOf (keptAt last (rowOf c first + i)) (stepFrom steps o first (c .kind) (nearness o i (c .bank)))
+abbrev pub bankAsk : List ℕ → List ℕ → Opening → CommandKind → ℕ → CommandKind → ℕ → ℕ
+bankAsk steps last o second spot first i = askOf (keptAt last (rowOf spot first + i)) (stepFrom steps o first second (nearness o i (spot % 16)))
 
-unfoldable pub rowAsk : List ℕ → List ℕ → Opening → Command → CommandKind → ℕ
-rowAsk steps last o c first = maxTo (bankAsk steps last o c first) 16
+unfoldable pub rowAsk : List ℕ → List ℕ → Opening → CommandKind → ℕ → CommandKind → ℕ
+rowAsk steps last o second spot first = maxTo (bankAsk steps last o second spot first) 16
 
-unfoldable pub rankAsk : List ℕ → List ℕ → Opening → Command → ℕ
-rankAsk steps last o c = maxTo (λ k. rowAsk steps last o c (kindAt k)) 7
+unfoldable pub rankAsk : List ℕ → List ℕ → Opening → CommandKind → ℕ → ℕ
+rankAsk steps last o second spot = maxTo (λ k. rowAsk steps last o second spot (kindAt k)) 7
 
 -- the fourth activate of the command's rank
 abbrev pub fourthFor : List Stamp → Command → Stamp
 fourthFor activates c = stampAt activates (c .rank % 2 * 4 + 3)
 
--- the largest ask: of the cycle after the last survivor, of the rank's rows, of the fourth activate
-abbrev pub lentAsk : List ℕ → List ℕ → Opening → Command → Stamp → Stamp → ℕ
-lentAsk steps last o c latest fourth =
-    max (max (readBack (latest .0) * 32 + 31) (rankAsk steps last o c)) (cond (sameKind (c .kind) Act) (askOf (readBack (fourth .0)) (getD steps tFAW 0)) 0)
+-- the larger ask of the cycle after the last survivor and of the fourth activate; and the largest with those of the rank's rows
+abbrev pub knownAsk : List ℕ → Progress → Command → ℕ
+knownAsk steps p c =
+    max (readBack (p .latest .0) * 32 + 31) (cond (sameKind (c .kind) Act) (askOf (readBack (fourthFor (p .activates) c .0)) (getD steps tFAW 0)) 0)
+
+abbrev pub lentAsk : List ℕ → List ℕ → Opening → CommandKind → ℕ → ℕ → ℕ
+lentAsk steps last o second spot known = max known (rankAsk steps last o second spot)
 
 -- the newest stamp of two banks next to each other, of four, and of the three fours that a bank is not of
 abbrev pub pairKept : List ℕ → ℕ → ℕ → ℕ
@@ -91,8 +98,8 @@ pub record Lent (table steps : List ℕ) (terms : Terms) : Type 0 where
   pub steps-are : steps ≡ gapSteps (terms .rounded)
 
 -- what a row needs
-pub record Ready (table steps : List ℕ) (c : Command) : Type 0 where
+pub record Ready (table steps : List ℕ) (spot : ℕ) : Type 0 where
   pub table-is : table ≡ gapTable
   pub steps-low : (i : ℕ) → getD steps i 0 < 2097152
   pub no-step : getD steps 0 0 ≡ 0
-  pub bank-low : c .bank < 16
+  pub spot-low : spot < 128

@@ -3,7 +3,7 @@
 ghost use mathlib.Core.Path.{_≡_};
 ghost use mathlib.Core.Logic.{_⊎_};
 ghost use mathlib.Core.Bool.{_||_};
-ghost use Prim.Native.Nat.{ℕ, _+_, _<_, _≤_};
+ghost use Prim.Native.Nat.{ℕ, _+_, _%_, _<_, _≤_};
 ghost use lib.Dec.{T};
 ghost use lib.ListN.{getD};
 ghost use Rattle.timing.specs.declared.kinds.CommandKind.the-variants.{Act, Rd, Wr, Prepb, Preab, Refab, Refpb};
@@ -16,10 +16,8 @@ use crate::rows::flat_ask;
 use crate::rows::kept_at;
 use crate::rows::larger;
 use crate::rows::near_ask;
-use session::state::RANK_SLOTS;
 use session::state::SLOTS;
 use timing::kinds::CommandKind;
-use timing::rules::Command;
 use timing::rules::Opening;
 use timing::rules::class_for;
 use timing::table::gap_number;
@@ -42,10 +40,11 @@ fn step(
     steps[n]
 }
 
-fn row_of(command: Command, first: CommandKind) -> usize
-    ensures { λ r. ⌜ (r ≡ rowOf command first) × (r + 16 ≤ slots) ⌝ }
+fn row_of(spot: usize, first: CommandKind) -> usize
+    requires { ⌜ spot < 128 ⌝ }
+    ensures { λ r. ⌜ (r ≡ rowOf spot first) × (r + 16 ≤ slots) ⌝ }
 {
-    command.rank as usize % 2 * RANK_SLOTS + place_of(first) * 16
+    spot / 16 * 16 + place_of(first) * 16
 }
 
 // A kind that asks within a bank only.
@@ -54,14 +53,14 @@ fn one_bank(
     steps: &[u64; 21],
     last: &[u64; SLOTS],
     opening: Opening,
-    command: Command,
+    second: CommandKind,
+    spot: usize,
     first: CommandKind,
 ) -> u64
-    requires { ⌜ Ready (now table) (now steps) command ⌝ }
-    ensures { λ r. ⌜ r ≡ bankAsk (now (steps .entry)) (now (last .entry)) opening command first (command .bank) ⌝ }
+    requires { ⌜ Ready (now table) (now steps) spot ⌝ }
+    ensures { λ r. ⌜ r ≡ bankAsk (now (steps .entry)) (now (last .entry)) opening second spot first (spot % 16) ⌝ }
 {
-    let second = command.kind;
-    let at = row_of(command, first) + command.bank as usize;
+    let at = row_of(spot, first) + spot % 16;
     ask_of(
         kept_at(last, at),
         step(table, steps, opening, first, second, 0),
@@ -73,18 +72,17 @@ fn whole_row(
     steps: &[u64; 21],
     last: &[u64; SLOTS],
     opening: Opening,
-    command: Command,
+    second: CommandKind,
+    spot: usize,
     first: CommandKind,
 ) -> u64
-    requires { ⌜ Ready (now table) (now steps) command ⌝ }
-    ensures { λ r. ⌜ r ≡ rowAsk (now (steps .entry)) (now (last .entry)) opening command first ⌝ }
+    requires { ⌜ Ready (now table) (now steps) spot ⌝ }
+    ensures { λ r. ⌜ r ≡ rowAsk (now (steps .entry)) (now (last .entry)) opening second spot first ⌝ }
 {
-    let second = command.kind;
-    let bank = command.bank;
     let own = step(table, steps, opening, first, second, 0);
     let mate = step(table, steps, opening, first, second, 1);
     let others = step(table, steps, opening, first, second, 2);
-    near_ask(last, row_of(command, first), bank, own, mate, others)
+    near_ask(last, row_of(spot, first), spot % 16, own, mate, others)
 }
 
 fn flat_row(
@@ -92,16 +90,16 @@ fn flat_row(
     steps: &[u64; 21],
     last: &[u64; SLOTS],
     opening: Opening,
-    command: Command,
+    second: CommandKind,
+    spot: usize,
     first: CommandKind,
 ) -> u64
-    requires { ⌜ Ready (now table) (now steps) command ⌝ }
-    requires { ⌜ T (allBanks first || allBanks (command .kind)) ⌝ }
-    ensures { λ r. ⌜ r ≡ rowAsk (now (steps .entry)) (now (last .entry)) opening command first ⌝ }
+    requires { ⌜ Ready (now table) (now steps) spot ⌝ }
+    requires { ⌜ T (allBanks first || allBanks second) ⌝ }
+    ensures { λ r. ⌜ r ≡ rowAsk (now (steps .entry)) (now (last .entry)) opening second spot first ⌝ }
 {
-    let second = command.kind;
     let all = step(table, steps, opening, first, second, 2);
-    flat_ask(last, row_of(command, first), all)
+    flat_ask(last, row_of(spot, first), all)
 }
 
 fn of_act(
@@ -109,17 +107,50 @@ fn of_act(
     steps: &[u64; 21],
     last: &[u64; SLOTS],
     opening: Opening,
-    command: Command,
+    second: CommandKind,
+    spot: usize,
 ) -> u64
-    requires { ⌜ Ready (now table) (now steps) command ⌝ }
-    requires { ⌜ command .kind ≡ Act ⌝ }
-    ensures { λ r. ⌜ r ≡ rankAsk (now (steps .entry)) (now (last .entry)) opening command ⌝ }
+    requires { ⌜ Ready (now table) (now steps) spot ⌝ }
+    requires { ⌜ second ≡ Act ⌝ }
+    ensures { λ r. ⌜ r ≡ rankAsk (now (steps .entry)) (now (last .entry)) opening second spot ⌝ }
 {
-    let act = whole_row(table, steps, last, opening, command, CommandKind::Act);
-    let prepb = one_bank(table, steps, last, opening, command, CommandKind::Prepb);
-    let preab = flat_row(table, steps, last, opening, command, CommandKind::Preab);
-    let refab = flat_row(table, steps, last, opening, command, CommandKind::Refab);
-    let refpb = one_bank(table, steps, last, opening, command, CommandKind::Refpb);
+    let act = whole_row(table, steps, last, opening, second, spot, CommandKind::Act);
+    let prepb = one_bank(
+        table,
+        steps,
+        last,
+        opening,
+        second,
+        spot,
+        CommandKind::Prepb,
+    );
+    let preab = flat_row(
+        table,
+        steps,
+        last,
+        opening,
+        second,
+        spot,
+        CommandKind::Preab,
+    );
+    let refab = flat_row(
+        table,
+        steps,
+        last,
+        opening,
+        second,
+        spot,
+        CommandKind::Refab,
+    );
+    let refpb = one_bank(
+        table,
+        steps,
+        last,
+        opening,
+        second,
+        spot,
+        CommandKind::Refpb,
+    );
     larger(larger(larger(larger(act, prepb), preab), refab), refpb)
 }
 
@@ -128,15 +159,16 @@ fn of_data(
     steps: &[u64; 21],
     last: &[u64; SLOTS],
     opening: Opening,
-    command: Command,
+    second: CommandKind,
+    spot: usize,
 ) -> u64
-    requires { ⌜ Ready (now table) (now steps) command ⌝ }
-    requires { ⌜ (command .kind ≡ Rd) ⊎ (command .kind ≡ Wr) ⌝ }
-    ensures { λ r. ⌜ r ≡ rankAsk (now (steps .entry)) (now (last .entry)) opening command ⌝ }
+    requires { ⌜ Ready (now table) (now steps) spot ⌝ }
+    requires { ⌜ (second ≡ Rd) ⊎ (second ≡ Wr) ⌝ }
+    ensures { λ r. ⌜ r ≡ rankAsk (now (steps .entry)) (now (last .entry)) opening second spot ⌝ }
 {
-    let act = one_bank(table, steps, last, opening, command, CommandKind::Act);
-    let rd = whole_row(table, steps, last, opening, command, CommandKind::Rd);
-    let wr = whole_row(table, steps, last, opening, command, CommandKind::Wr);
+    let act = one_bank(table, steps, last, opening, second, spot, CommandKind::Act);
+    let rd = whole_row(table, steps, last, opening, second, spot, CommandKind::Rd);
+    let wr = whole_row(table, steps, last, opening, second, spot, CommandKind::Wr);
     larger(larger(act, rd), wr)
 }
 
@@ -145,16 +177,25 @@ fn of_prepb(
     steps: &[u64; 21],
     last: &[u64; SLOTS],
     opening: Opening,
-    command: Command,
+    second: CommandKind,
+    spot: usize,
 ) -> u64
-    requires { ⌜ Ready (now table) (now steps) command ⌝ }
-    requires { ⌜ command .kind ≡ Prepb ⌝ }
-    ensures { λ r. ⌜ r ≡ rankAsk (now (steps .entry)) (now (last .entry)) opening command ⌝ }
+    requires { ⌜ Ready (now table) (now steps) spot ⌝ }
+    requires { ⌜ second ≡ Prepb ⌝ }
+    ensures { λ r. ⌜ r ≡ rankAsk (now (steps .entry)) (now (last .entry)) opening second spot ⌝ }
 {
-    let act = one_bank(table, steps, last, opening, command, CommandKind::Act);
-    let rd = one_bank(table, steps, last, opening, command, CommandKind::Rd);
-    let wr = one_bank(table, steps, last, opening, command, CommandKind::Wr);
-    let prepb = whole_row(table, steps, last, opening, command, CommandKind::Prepb);
+    let act = one_bank(table, steps, last, opening, second, spot, CommandKind::Act);
+    let rd = one_bank(table, steps, last, opening, second, spot, CommandKind::Rd);
+    let wr = one_bank(table, steps, last, opening, second, spot, CommandKind::Wr);
+    let prepb = whole_row(
+        table,
+        steps,
+        last,
+        opening,
+        second,
+        spot,
+        CommandKind::Prepb,
+    );
     larger(larger(larger(act, rd), wr), prepb)
 }
 
@@ -163,15 +204,16 @@ fn of_preab(
     steps: &[u64; 21],
     last: &[u64; SLOTS],
     opening: Opening,
-    command: Command,
+    second: CommandKind,
+    spot: usize,
 ) -> u64
-    requires { ⌜ Ready (now table) (now steps) command ⌝ }
-    requires { ⌜ command .kind ≡ Preab ⌝ }
-    ensures { λ r. ⌜ r ≡ rankAsk (now (steps .entry)) (now (last .entry)) opening command ⌝ }
+    requires { ⌜ Ready (now table) (now steps) spot ⌝ }
+    requires { ⌜ second ≡ Preab ⌝ }
+    ensures { λ r. ⌜ r ≡ rankAsk (now (steps .entry)) (now (last .entry)) opening second spot ⌝ }
 {
-    let act = flat_row(table, steps, last, opening, command, CommandKind::Act);
-    let rd = flat_row(table, steps, last, opening, command, CommandKind::Rd);
-    let wr = flat_row(table, steps, last, opening, command, CommandKind::Wr);
+    let act = flat_row(table, steps, last, opening, second, spot, CommandKind::Act);
+    let rd = flat_row(table, steps, last, opening, second, spot, CommandKind::Rd);
+    let wr = flat_row(table, steps, last, opening, second, spot, CommandKind::Wr);
     larger(larger(act, rd), wr)
 }
 
@@ -180,14 +222,31 @@ fn of_refab(
     steps: &[u64; 21],
     last: &[u64; SLOTS],
     opening: Opening,
-    command: Command,
+    second: CommandKind,
+    spot: usize,
 ) -> u64
-    requires { ⌜ Ready (now table) (now steps) command ⌝ }
-    requires { ⌜ command .kind ≡ Refab ⌝ }
-    ensures { λ r. ⌜ r ≡ rankAsk (now (steps .entry)) (now (last .entry)) opening command ⌝ }
+    requires { ⌜ Ready (now table) (now steps) spot ⌝ }
+    requires { ⌜ second ≡ Refab ⌝ }
+    ensures { λ r. ⌜ r ≡ rankAsk (now (steps .entry)) (now (last .entry)) opening second spot ⌝ }
 {
-    let preab = flat_row(table, steps, last, opening, command, CommandKind::Preab);
-    let refab = flat_row(table, steps, last, opening, command, CommandKind::Refab);
+    let preab = flat_row(
+        table,
+        steps,
+        last,
+        opening,
+        second,
+        spot,
+        CommandKind::Preab,
+    );
+    let refab = flat_row(
+        table,
+        steps,
+        last,
+        opening,
+        second,
+        spot,
+        CommandKind::Refab,
+    );
     larger(preab, refab)
 }
 
@@ -196,14 +255,31 @@ fn of_refpb(
     steps: &[u64; 21],
     last: &[u64; SLOTS],
     opening: Opening,
-    command: Command,
+    second: CommandKind,
+    spot: usize,
 ) -> u64
-    requires { ⌜ Ready (now table) (now steps) command ⌝ }
-    requires { ⌜ command .kind ≡ Refpb ⌝ }
-    ensures { λ r. ⌜ r ≡ rankAsk (now (steps .entry)) (now (last .entry)) opening command ⌝ }
+    requires { ⌜ Ready (now table) (now steps) spot ⌝ }
+    requires { ⌜ second ≡ Refpb ⌝ }
+    ensures { λ r. ⌜ r ≡ rankAsk (now (steps .entry)) (now (last .entry)) opening second spot ⌝ }
 {
-    let prepb = one_bank(table, steps, last, opening, command, CommandKind::Prepb);
-    let refpb = whole_row(table, steps, last, opening, command, CommandKind::Refpb);
+    let prepb = one_bank(
+        table,
+        steps,
+        last,
+        opening,
+        second,
+        spot,
+        CommandKind::Prepb,
+    );
+    let refpb = whole_row(
+        table,
+        steps,
+        last,
+        opening,
+        second,
+        spot,
+        CommandKind::Refpb,
+    );
     larger(prepb, refpb)
 }
 
@@ -212,19 +288,19 @@ pub fn of_rank(
     steps: &[u64; 21],
     last: &[u64; SLOTS],
     opening: Opening,
-    command: Command,
+    second: CommandKind,
+    spot: usize,
 ) -> u64
-    requires { ⌜ Ready (now table) (now steps) command ⌝ }
-    ensures { λ r. ⌜ r ≡ rankAsk (now (steps .entry)) (now (last .entry)) opening command ⌝ }
+    requires { ⌜ Ready (now table) (now steps) spot ⌝ }
+    ensures { λ r. ⌜ r ≡ rankAsk (now (steps .entry)) (now (last .entry)) opening second spot ⌝ }
 {
-    let kind = command.kind;
-    match kind {
-        CommandKind::Act => of_act(table, steps, last, opening, command),
-        CommandKind::Rd => of_data(table, steps, last, opening, command),
-        CommandKind::Wr => of_data(table, steps, last, opening, command),
-        CommandKind::Prepb => of_prepb(table, steps, last, opening, command),
-        CommandKind::Preab => of_preab(table, steps, last, opening, command),
-        CommandKind::Refab => of_refab(table, steps, last, opening, command),
-        CommandKind::Refpb => of_refpb(table, steps, last, opening, command),
+    match second {
+        CommandKind::Act => of_act(table, steps, last, opening, second, spot),
+        CommandKind::Rd => of_data(table, steps, last, opening, second, spot),
+        CommandKind::Wr => of_data(table, steps, last, opening, second, spot),
+        CommandKind::Prepb => of_prepb(table, steps, last, opening, second, spot),
+        CommandKind::Preab => of_preab(table, steps, last, opening, second, spot),
+        CommandKind::Refab => of_refab(table, steps, last, opening, second, spot),
+        CommandKind::Refpb => of_refpb(table, steps, last, opening, second, spot),
     }
 }

@@ -4,15 +4,18 @@ ghost use mathlib.Core.Path.{_≡_};
 ghost use mathlib.Core.Bool.{cond};
 ghost use Prim.Native.Nat.{ℕ, _+_, _-_, _*_, _%_, _<_, max};
 ghost use lib.Dec.{eqb};
+ghost use lib.ListN.{getD};
 ghost use Rattle.timing.specs.declared.kinds.CommandKind.the-variants.{Act};
 ghost use Rattle.timing.specs.Kinds.{sameKind};
 ghost use Rattle.session.specs.Stamps.{readBack};
 ghost use Rattle.scan.specs.Scan.{askOf, unpacked, askIn};
-ghost use Rattle.scan.specs.Rows.{stamps, gapSteps, fourthFor, lentAsk, Ready};
+ghost use Rattle.scan.specs.Rows.{stamps, gapSteps, spotOf, fourthFor, knownAsk, lentAsk, Ready};
 use crate::asks::of_rank;
 use crate::rows::ask_of;
 use crate::rows::larger;
 use session::stamps::Stamp;
+use session::state::Progress;
+use session::state::RANK_SLOTS;
 use session::state::SLOTS;
 use timing::clocks::ControllerCycles;
 use timing::kinds::CommandKind;
@@ -59,7 +62,7 @@ pub fn gap_steps(rounded: [ControllerCycles; 20]) -> [u64; 21]
 }
 
 // The fourth activate of the command's rank.
-pub fn fourth_for(activates: [Stamp; 8], command: Command) -> Stamp
+fn fourth_for(activates: [Stamp; 8], command: Command) -> Stamp
     ensures { λ r. ⌜ r ≡ fourthFor activates command ⌝ }
 {
     if command.rank % 2 == 0 {
@@ -79,28 +82,45 @@ fn four(fourth: Stamp, step: u64, kind: CommandKind) -> u64
     0
 }
 
+// What is asked beside the rows: the cycle after the last survivor, and by the fourth activate.
+pub fn known_ask(steps: &[u64; 21], progress: Progress, command: Command) -> u64
+    requires { ⌜ getD (now steps) 20 0 < 2097152 ⌝ }
+    ensures { λ r. ⌜ r ≡ knownAsk (now (steps .entry)) progress command ⌝ }
+{
+    let latest = progress.latest;
+    let activates = progress.activates;
+    let kind = command.kind;
+    let floor = latest.after().0 * 32 + 31;
+    let fourth = fourth_for(activates, command);
+    larger(floor, four(fourth, steps[20], kind))
+}
+
+// The bank's spot in the first row of its rank.
+pub fn spot_of(command: Command) -> usize
+    ensures { λ r. ⌜ r ≡ spotOf command ⌝ }
+{
+    command.rank as usize % 2 * RANK_SLOTS + command.bank as usize
+}
+
 pub struct Earliest {
     pub cycle: ControllerCycles,
     pub gap: u64,
 }
 
-// It takes what it reads, and no more: what goes by value is copied at every call.
+// It takes numbers where it can: what goes by value is copied at every call, and a struct is read where it was just written.
 pub fn earliest_of(
     table: &[u8; 294],
     steps: &[u64; 21],
     last: &[u64; SLOTS],
     opening: Opening,
-    command: Command,
-    latest: Stamp,
-    fourth: Stamp,
+    second: CommandKind,
+    spot: usize,
+    known: u64,
 ) -> Earliest
-    requires { ⌜ Ready (now table) (now steps) command ⌝ }
-    ensures { λ r. ⌜ askIn r ≡ unpacked (lentAsk (now (steps .entry)) (now (last .entry)) opening command latest fourth) ⌝ }
+    requires { ⌜ Ready (now table) (now steps) spot ⌝ }
+    ensures { λ r. ⌜ askIn r ≡ unpacked (lentAsk (now (steps .entry)) (now (last .entry)) opening second spot known) ⌝ }
 {
-    let kind = command.kind;
-    let floor = latest.after().0 * 32 + 31;
-    let best = larger(floor, of_rank(table, steps, last, opening, command));
-    let largest = larger(best, four(fourth, steps[20], kind));
+    let largest = larger(known, of_rank(table, steps, last, opening, second, spot));
     Earliest {
         cycle: ControllerCycles(largest / 32),
         gap: 31 - largest % 32,

@@ -70,29 +70,38 @@ fn far_kept(last: &[u64; SLOTS], row: usize, own: usize) -> u64
 }
 
 // The other bank of a bank's group.
-fn mate_of(bank: u8) -> usize
+fn mate_of(bank: usize) -> usize
+    requires { ⌜ bank < 16 ⌝ }
     ensures { λ r. ⌜ r ≡ mateOf bank ⌝ }
 {
-    (bank / 2 * 2 + (1 - bank % 2)) as usize
+    bank / 2 * 2 + (1 - bank % 2)
 }
 
 // The other pair of its four.
-fn pair_beside(bank: u8) -> usize
+fn pair_beside(bank: usize) -> usize
+    requires { ⌜ bank < 16 ⌝ }
     ensures { λ r. ⌜ r ≡ pairBeside bank ⌝ }
 {
-    (bank / 4 * 2 + (1 - bank / 2 % 2)) as usize
+    bank / 4 * 2 + (1 - bank / 2 % 2)
 }
 
 // A row whole, by its newest stamp for each nearness.
-pub fn near_ask(last: &[u64; SLOTS], row: usize, bank: u8, own: u64, mate: u64, others: u64) -> u64
+pub fn near_ask(
+    last: &[u64; SLOTS],
+    row: usize,
+    bank: usize,
+    own: u64,
+    mate: u64,
+    others: u64,
+) -> u64
     requires { ⌜ (row + 16 ≤ slots) × (bank < 16) ⌝ }
     requires { ⌜ (own < 2097152) × (mate < 2097152) × (others < 2097152) ⌝ }
     ensures { λ r. ⌜ r ≡ nearAsk (now (last .entry)) row bank own mate others ⌝ }
 {
-    let here = ask_of(kept_at(last, row + bank as usize), own);
+    let here = ask_of(kept_at(last, row + bank), own);
     let near = ask_of(kept_at(last, row + mate_of(bank)), mate);
     let beside = pair_kept(last, row, pair_beside(bank));
-    let newest = larger(far_kept(last, row, bank as usize / 4), beside);
+    let newest = larger(far_kept(last, row, bank / 4), beside);
     larger(here, larger(near, ask_of(newest, others)))
 }
 

@@ -18,7 +18,7 @@ returns : tie.Need-returns
 returns c =
     let a = c .before .before .before .args in
     c .flat-ask .ensures
-    ∙ rw (c .before .before .step .ensures .0, c .before .row-of .ensures .0) (flat-whole (a .steps .now) (a .last .now) (a .opening) (a .command) (a .first) (c .before .before .before .pre .1))
+    ∙ rw (c .before .before .step .ensures .0, c .before .row-of .ensures .0) (flat-whole (a .steps .now) (a .last .now) (a .opening) (a .second) (a .spot) (a .first) (c .before .before .before .pre .1))
 
 pub flat-row-spec : {M : Type 1} → statement M
 flat-row-spec = tie.close (tie.spec step-requires row-of-requires flat-ask-requires returns)

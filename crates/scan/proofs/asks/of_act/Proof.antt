@@ -1,6 +1,7 @@
 -- `of_act` meets its contract.
 use mathlib.Core.Path.{sym, _∙_}
 use Rattle.scan.proofs.KindRows.{act-rows}
+use native.Mathlib.Omega.{arith}
 use borrow.Author.Needs.{needs}
 use Rattle.scan.proofs.asks.of_act.Statement.{statement}
 use Rattle.scan.proofs.asks.of_act.Tie as tie
@@ -37,7 +38,7 @@ returns c =
     let s = c .before .before .before .before .before .before .before .before .before in
     c .larger4 .ensures
     ∙ rw (c .before .larger3 .ensures, c .before .before .larger2 .ensures, c .before .before .before .larger .ensures, c .before .before .before .before .one-bank2 .ensures, c .before .before .before .before .before .flat-row2 .ensures, c .before .before .before .before .before .before .flat-row .ensures, c .before .before .before .before .before .before .before .one-bank .ensures, c .before .before .before .before .before .before .before .before .whole-row .ensures)
-    (sym (act-rows (s .args .steps .now) (s .args .last .now) (s .args .opening) (s .args .command) (s .pre .0 .no-step) (s .pre .0 .bank-low) (s .pre .1)))
+    (sym (act-rows (s .args .steps .now) (s .args .last .now) (s .args .opening) (s .args .second) (s .args .spot) (s .pre .0 .no-step) (omega arith) (s .pre .1)))
 
 pub of-act-spec : {M : Type 1} → statement M
 of-act-spec =

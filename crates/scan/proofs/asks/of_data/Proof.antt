@@ -1,6 +1,7 @@
 -- `of_data` meets its contract.
 use mathlib.Core.Path.{sym, _∙_}
 use Rattle.scan.proofs.KindRows.{data-rows}
+use native.Mathlib.Omega.{arith}
 use borrow.Author.Needs.{needs}
 use Rattle.scan.proofs.asks.of_data.Statement.{statement}
 use Rattle.scan.proofs.asks.of_data.Tie as tie
@@ -25,7 +26,7 @@ returns c =
     let s = c .before .before .before .before .before in
     c .larger2 .ensures
     ∙ rw (c .before .larger .ensures, c .before .before .whole-row2 .ensures, c .before .before .before .whole-row .ensures, c .before .before .before .before .one-bank .ensures)
-    (sym (data-rows (s .args .steps .now) (s .args .last .now) (s .args .opening) (s .args .command) (s .pre .0 .no-step) (s .pre .0 .bank-low) (s .pre .1)))
+    (sym (data-rows (s .args .steps .now) (s .args .last .now) (s .args .opening) (s .args .second) (s .args .spot) (s .pre .0 .no-step) (omega arith) (s .pre .1)))
 
 pub of-data-spec : {M : Type 1} → statement M
 of-data-spec =

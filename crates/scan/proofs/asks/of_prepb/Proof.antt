@@ -1,6 +1,7 @@
 -- `of_prepb` meets its contract.
 use mathlib.Core.Path.{sym, _∙_}
 use Rattle.scan.proofs.KindRows.{prepb-rows}
+use native.Mathlib.Omega.{arith}
 use borrow.Author.Needs.{needs}
 use Rattle.scan.proofs.asks.of_prepb.Statement.{statement}
 use Rattle.scan.proofs.asks.of_prepb.Tie as tie
@@ -31,7 +32,7 @@ returns c =
     let s = c .before .before .before .before .before .before .before in
     c .larger3 .ensures
     ∙ rw (c .before .larger2 .ensures, c .before .before .larger .ensures, c .before .before .before .whole-row .ensures, c .before .before .before .before .one-bank3 .ensures, c .before .before .before .before .before .one-bank2 .ensures, c .before .before .before .before .before .before .one-bank .ensures)
-    (sym (prepb-rows (s .args .steps .now) (s .args .last .now) (s .args .opening) (s .args .command) (s .pre .0 .no-step) (s .pre .0 .bank-low) (s .pre .1)))
+    (sym (prepb-rows (s .args .steps .now) (s .args .last .now) (s .args .opening) (s .args .second) (s .args .spot) (s .pre .0 .no-step) (omega arith) (s .pre .1)))
 
 pub of-prepb-spec : {M : Type 1} → statement M
 of-prepb-spec =

@@ -1,6 +1,7 @@
 -- `of_refab` meets its contract.
 use mathlib.Core.Path.{sym, _∙_}
 use Rattle.scan.proofs.KindRows.{refab-rows}
+use native.Mathlib.Omega.{arith}
 use borrow.Author.Needs.{needs}
 use Rattle.scan.proofs.asks.of_refab.Statement.{statement}
 use Rattle.scan.proofs.asks.of_refab.Tie as tie
@@ -19,7 +20,7 @@ returns c =
     let s = c .before .before .before in
     c .larger .ensures
     ∙ rw (c .before .flat-row2 .ensures, c .before .before .flat-row .ensures)
-    (sym (refab-rows (s .args .steps .now) (s .args .last .now) (s .args .opening) (s .args .command) (s .pre .0 .no-step) (s .pre .0 .bank-low) (s .pre .1)))
+    (sym (refab-rows (s .args .steps .now) (s .args .last .now) (s .args .opening) (s .args .second) (s .args .spot) (s .pre .0 .no-step) (omega arith) (s .pre .1)))
 
 pub of-refab-spec : {M : Type 1} → statement M
 of-refab-spec = tie.close (tie.spec flat-row-requires flat-row-requires-2 larger-requires returns)

@@ -1,6 +1,7 @@
 -- `of_refpb` meets its contract.
 use mathlib.Core.Path.{sym, _∙_}
 use Rattle.scan.proofs.KindRows.{refpb-rows}
+use native.Mathlib.Omega.{arith}
 use borrow.Author.Needs.{needs}
 use Rattle.scan.proofs.asks.of_refpb.Statement.{statement}
 use Rattle.scan.proofs.asks.of_refpb.Tie as tie
@@ -19,7 +20,7 @@ returns c =
     let s = c .before .before .before in
     c .larger .ensures
     ∙ rw (c .before .whole-row .ensures, c .before .before .one-bank .ensures)
-    (sym (refpb-rows (s .args .steps .now) (s .args .last .now) (s .args .opening) (s .args .command) (s .pre .0 .no-step) (s .pre .0 .bank-low) (s .pre .1)))
+    (sym (refpb-rows (s .args .steps .now) (s .args .last .now) (s .args .opening) (s .args .second) (s .args .spot) (s .pre .0 .no-step) (omega arith) (s .pre .1)))
 
 pub of-refpb-spec : {M : Type 1} → statement M
 of-refpb-spec = tie.close (tie.spec one-bank-requires whole-row-requires larger-requires returns)

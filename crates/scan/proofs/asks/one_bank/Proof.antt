@@ -1,5 +1,6 @@
 -- `one_bank` meets its contract.
 use mathlib.Core.Path.{refl, _∙_}
+use Prim.Native.Nat.{_%_}
 use borrow.Author.Tests.{eq-eqb}
 use borrow.Author.Needs.{needs}
 use Rattle.scan.proofs.asks.one_bank.Statement.{statement}
@@ -7,9 +8,6 @@ use Rattle.scan.proofs.asks.one_bank.Tie as tie
 
 row-of-requires : tie.Need-row-of-requires
 row-of-requires c κs = search needs
-
-cast-at : tie.Need-cast-at
-cast-at c = search needs
 
 add-at : tie.Need-add-at
 add-at c = search needs
@@ -25,17 +23,10 @@ ask-of-requires c κs = search needs
 
 returns : tie.Need-returns
 returns c =
-    let bank = c .before .before .before .before .before .args .command .bank in
-    c .ask-of .ensures ∙ rw (c .before .before .kept-at .ensures .0, c .before .step .ensures .0, c .before .before .before .before .row-of .ensures .0, eq-eqb bank bank refl)
+    let bank = c .before .before .before .before .args .spot % 16 in
+    c .ask-of .ensures ∙ rw (c .before .before .kept-at .ensures .0, c .before .step .ensures .0, c .before .before .before .row-of .ensures .0, eq-eqb bank bank refl)
 
 pub one-bank-spec : {M : Type 1} → statement M
 one-bank-spec =
     tie.close
-    (tie.spec
-    row-of-requires
-    cast-at
-    add-at
-    kept-at-requires
-    step-requires
-    ask-of-requires
-    returns)
+    (tie.spec row-of-requires add-at kept-at-requires step-requires ask-of-requires returns)

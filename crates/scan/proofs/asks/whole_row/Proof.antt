@@ -1,6 +1,7 @@
 -- `whole_row` meets its contract.
 use mathlib.Core.Path.{_∙_}
 use Rattle.scan.proofs.RowLaws.{near-whole}
+use native.Mathlib.Omega.{arith}
 use borrow.Author.Needs.{needs}
 use Rattle.scan.proofs.asks.whole_row.Statement.{statement}
 use Rattle.scan.proofs.asks.whole_row.Tie as tie
@@ -25,7 +26,7 @@ returns c =
     let a = c .before .before .before .before .before .args in
     c .near-ask .ensures
     ∙ rw (c .before .before .before .before .step .ensures .0, c .before .before .before .step2 .ensures .0, c .before .before .step3 .ensures .0, c .before .row-of .ensures .0)
-    (near-whole (a .steps .now) (a .last .now) (a .opening) (a .command) (a .first) (c .before .before .before .before .before .pre .bank-low))
+    (near-whole (a .steps .now) (a .last .now) (a .opening) (a .second) (a .spot) (a .first) (omega arith))
 
 pub whole-row-spec : {M : Type 1} → statement M
 whole-row-spec =
