@@ -51,9 +51,6 @@ ask-either a b s w la lb = go (ltb a b) refl
 abbrev mate : ℕ → ℕ
 mate = mateOf
 
-abbrev beside : ℕ → ℕ
-beside b = 2 * pairBeside b
-
 pub mate-near : (o : Opening) (b : ℕ) → nearness o (mate b) b ≡ 1
 mate-near o b =
     let apart : mate b ≢ b = λ z. omega (arith, z) in

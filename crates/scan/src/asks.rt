@@ -17,7 +17,7 @@ use crate::rows::kept_at;
 use crate::rows::larger;
 use crate::rows::near_ask;
 use session::state::SLOTS;
-use timing::kinds::CommandKind;
+use timing::kinds::CommandKind as Kind;
 use timing::rules::Opening;
 use timing::rules::class_for;
 use timing::table::gap_number;
@@ -27,8 +27,8 @@ fn step(
     table: &[u8; 294],
     steps: &[u64; 21],
     opening: Opening,
-    first: CommandKind,
-    second: CommandKind,
+    first: Kind,
+    second: Kind,
     near: usize,
 ) -> u64
     requires { ⌜ (now table ≡ gapTable) × ((i : ℕ) → getD (now steps) i 0 < 2097152) ⌝ }
@@ -40,7 +40,7 @@ fn step(
     steps[n]
 }
 
-fn row_of(spot: usize, first: CommandKind) -> usize
+fn row_of(spot: usize, first: Kind) -> usize
     requires { ⌜ spot < 128 ⌝ }
     ensures { λ r. ⌜ (r ≡ rowOf spot first) × (r + 16 ≤ slots) ⌝ }
 {
@@ -53,9 +53,9 @@ fn one_bank(
     steps: &[u64; 21],
     last: &[u64; SLOTS],
     opening: Opening,
-    second: CommandKind,
+    second: Kind,
     spot: usize,
-    first: CommandKind,
+    first: Kind,
 ) -> u64
     requires { ⌜ Ready (now table) (now steps) spot ⌝ }
     ensures { λ r. ⌜ r ≡ bankAsk (now (steps .entry)) (now (last .entry)) opening second spot first (spot % 16) ⌝ }
@@ -72,9 +72,9 @@ fn whole_row(
     steps: &[u64; 21],
     last: &[u64; SLOTS],
     opening: Opening,
-    second: CommandKind,
+    second: Kind,
     spot: usize,
-    first: CommandKind,
+    first: Kind,
 ) -> u64
     requires { ⌜ Ready (now table) (now steps) spot ⌝ }
     ensures { λ r. ⌜ r ≡ rowAsk (now (steps .entry)) (now (last .entry)) opening second spot first ⌝ }
@@ -90,9 +90,9 @@ fn flat_row(
     steps: &[u64; 21],
     last: &[u64; SLOTS],
     opening: Opening,
-    second: CommandKind,
+    second: Kind,
     spot: usize,
-    first: CommandKind,
+    first: Kind,
 ) -> u64
     requires { ⌜ Ready (now table) (now steps) spot ⌝ }
     requires { ⌜ T (allBanks first || allBanks second) ⌝ }
@@ -107,50 +107,18 @@ fn of_act(
     steps: &[u64; 21],
     last: &[u64; SLOTS],
     opening: Opening,
-    second: CommandKind,
+    second: Kind,
     spot: usize,
 ) -> u64
     requires { ⌜ Ready (now table) (now steps) spot ⌝ }
     requires { ⌜ second ≡ Act ⌝ }
     ensures { λ r. ⌜ r ≡ rankAsk (now (steps .entry)) (now (last .entry)) opening second spot ⌝ }
 {
-    let act = whole_row(table, steps, last, opening, second, spot, CommandKind::Act);
-    let prepb = one_bank(
-        table,
-        steps,
-        last,
-        opening,
-        second,
-        spot,
-        CommandKind::Prepb,
-    );
-    let preab = flat_row(
-        table,
-        steps,
-        last,
-        opening,
-        second,
-        spot,
-        CommandKind::Preab,
-    );
-    let refab = flat_row(
-        table,
-        steps,
-        last,
-        opening,
-        second,
-        spot,
-        CommandKind::Refab,
-    );
-    let refpb = one_bank(
-        table,
-        steps,
-        last,
-        opening,
-        second,
-        spot,
-        CommandKind::Refpb,
-    );
+    let act = whole_row(table, steps, last, opening, second, spot, Kind::Act);
+    let prepb = one_bank(table, steps, last, opening, second, spot, Kind::Prepb);
+    let preab = flat_row(table, steps, last, opening, second, spot, Kind::Preab);
+    let refab = flat_row(table, steps, last, opening, second, spot, Kind::Refab);
+    let refpb = one_bank(table, steps, last, opening, second, spot, Kind::Refpb);
     larger(larger(larger(larger(act, prepb), preab), refab), refpb)
 }
 
@@ -159,16 +127,16 @@ fn of_data(
     steps: &[u64; 21],
     last: &[u64; SLOTS],
     opening: Opening,
-    second: CommandKind,
+    second: Kind,
     spot: usize,
 ) -> u64
     requires { ⌜ Ready (now table) (now steps) spot ⌝ }
     requires { ⌜ (second ≡ Rd) ⊎ (second ≡ Wr) ⌝ }
     ensures { λ r. ⌜ r ≡ rankAsk (now (steps .entry)) (now (last .entry)) opening second spot ⌝ }
 {
-    let act = one_bank(table, steps, last, opening, second, spot, CommandKind::Act);
-    let rd = whole_row(table, steps, last, opening, second, spot, CommandKind::Rd);
-    let wr = whole_row(table, steps, last, opening, second, spot, CommandKind::Wr);
+    let act = one_bank(table, steps, last, opening, second, spot, Kind::Act);
+    let rd = whole_row(table, steps, last, opening, second, spot, Kind::Rd);
+    let wr = whole_row(table, steps, last, opening, second, spot, Kind::Wr);
     larger(larger(act, rd), wr)
 }
 
@@ -177,25 +145,17 @@ fn of_prepb(
     steps: &[u64; 21],
     last: &[u64; SLOTS],
     opening: Opening,
-    second: CommandKind,
+    second: Kind,
     spot: usize,
 ) -> u64
     requires { ⌜ Ready (now table) (now steps) spot ⌝ }
     requires { ⌜ second ≡ Prepb ⌝ }
     ensures { λ r. ⌜ r ≡ rankAsk (now (steps .entry)) (now (last .entry)) opening second spot ⌝ }
 {
-    let act = one_bank(table, steps, last, opening, second, spot, CommandKind::Act);
-    let rd = one_bank(table, steps, last, opening, second, spot, CommandKind::Rd);
-    let wr = one_bank(table, steps, last, opening, second, spot, CommandKind::Wr);
-    let prepb = whole_row(
-        table,
-        steps,
-        last,
-        opening,
-        second,
-        spot,
-        CommandKind::Prepb,
-    );
+    let act = one_bank(table, steps, last, opening, second, spot, Kind::Act);
+    let rd = one_bank(table, steps, last, opening, second, spot, Kind::Rd);
+    let wr = one_bank(table, steps, last, opening, second, spot, Kind::Wr);
+    let prepb = whole_row(table, steps, last, opening, second, spot, Kind::Prepb);
     larger(larger(larger(act, rd), wr), prepb)
 }
 
@@ -204,16 +164,16 @@ fn of_preab(
     steps: &[u64; 21],
     last: &[u64; SLOTS],
     opening: Opening,
-    second: CommandKind,
+    second: Kind,
     spot: usize,
 ) -> u64
     requires { ⌜ Ready (now table) (now steps) spot ⌝ }
     requires { ⌜ second ≡ Preab ⌝ }
     ensures { λ r. ⌜ r ≡ rankAsk (now (steps .entry)) (now (last .entry)) opening second spot ⌝ }
 {
-    let act = flat_row(table, steps, last, opening, second, spot, CommandKind::Act);
-    let rd = flat_row(table, steps, last, opening, second, spot, CommandKind::Rd);
-    let wr = flat_row(table, steps, last, opening, second, spot, CommandKind::Wr);
+    let act = flat_row(table, steps, last, opening, second, spot, Kind::Act);
+    let rd = flat_row(table, steps, last, opening, second, spot, Kind::Rd);
+    let wr = flat_row(table, steps, last, opening, second, spot, Kind::Wr);
     larger(larger(act, rd), wr)
 }
 
@@ -222,31 +182,15 @@ fn of_refab(
     steps: &[u64; 21],
     last: &[u64; SLOTS],
     opening: Opening,
-    second: CommandKind,
+    second: Kind,
     spot: usize,
 ) -> u64
     requires { ⌜ Ready (now table) (now steps) spot ⌝ }
     requires { ⌜ second ≡ Refab ⌝ }
     ensures { λ r. ⌜ r ≡ rankAsk (now (steps .entry)) (now (last .entry)) opening second spot ⌝ }
 {
-    let preab = flat_row(
-        table,
-        steps,
-        last,
-        opening,
-        second,
-        spot,
-        CommandKind::Preab,
-    );
-    let refab = flat_row(
-        table,
-        steps,
-        last,
-        opening,
-        second,
-        spot,
-        CommandKind::Refab,
-    );
+    let preab = flat_row(table, steps, last, opening, second, spot, Kind::Preab);
+    let refab = flat_row(table, steps, last, opening, second, spot, Kind::Refab);
     larger(preab, refab)
 }
 
@@ -255,31 +199,15 @@ fn of_refpb(
     steps: &[u64; 21],
     last: &[u64; SLOTS],
     opening: Opening,
-    second: CommandKind,
+    second: Kind,
     spot: usize,
 ) -> u64
     requires { ⌜ Ready (now table) (now steps) spot ⌝ }
     requires { ⌜ second ≡ Refpb ⌝ }
     ensures { λ r. ⌜ r ≡ rankAsk (now (steps .entry)) (now (last .entry)) opening second spot ⌝ }
 {
-    let prepb = one_bank(
-        table,
-        steps,
-        last,
-        opening,
-        second,
-        spot,
-        CommandKind::Prepb,
-    );
-    let refpb = whole_row(
-        table,
-        steps,
-        last,
-        opening,
-        second,
-        spot,
-        CommandKind::Refpb,
-    );
+    let prepb = one_bank(table, steps, last, opening, second, spot, Kind::Prepb);
+    let refpb = whole_row(table, steps, last, opening, second, spot, Kind::Refpb);
     larger(prepb, refpb)
 }
 
@@ -288,19 +216,19 @@ pub fn of_rank(
     steps: &[u64; 21],
     last: &[u64; SLOTS],
     opening: Opening,
-    second: CommandKind,
+    second: Kind,
     spot: usize,
 ) -> u64
     requires { ⌜ Ready (now table) (now steps) spot ⌝ }
     ensures { λ r. ⌜ r ≡ rankAsk (now (steps .entry)) (now (last .entry)) opening second spot ⌝ }
 {
     match second {
-        CommandKind::Act => of_act(table, steps, last, opening, second, spot),
-        CommandKind::Rd => of_data(table, steps, last, opening, second, spot),
-        CommandKind::Wr => of_data(table, steps, last, opening, second, spot),
-        CommandKind::Prepb => of_prepb(table, steps, last, opening, second, spot),
-        CommandKind::Preab => of_preab(table, steps, last, opening, second, spot),
-        CommandKind::Refab => of_refab(table, steps, last, opening, second, spot),
-        CommandKind::Refpb => of_refpb(table, steps, last, opening, second, spot),
+        Kind::Act => of_act(table, steps, last, opening, second, spot),
+        Kind::Rd => of_data(table, steps, last, opening, second, spot),
+        Kind::Wr => of_data(table, steps, last, opening, second, spot),
+        Kind::Prepb => of_prepb(table, steps, last, opening, second, spot),
+        Kind::Preab => of_preab(table, steps, last, opening, second, spot),
+        Kind::Refab => of_refab(table, steps, last, opening, second, spot),
+        Kind::Refpb => of_refpb(table, steps, last, opening, second, spot),
     }
 }

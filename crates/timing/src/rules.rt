@@ -1,8 +1,7 @@
-// The settings of an opening, commands, their groups and classes.
+// The settings of an opening, commands, their classes.
 ghost use mathlib.Core.Path.{_≡_};
-ghost use Prim.Native.Nat.{_<_};
 ghost use Rattle.timing.specs.Kinds.{allBanks};
-ghost use Rattle.timing.specs.Rules.{groupOf, nearness as nearnessOf, classFor};
+ghost use Rattle.timing.specs.Rules.{classFor};
 use crate::kinds::CommandKind;
 
 // What an opening says beside its twenty gaps.
@@ -20,12 +19,6 @@ pub struct Command {
     pub bank: u8,
 }
 
-pub fn group_of(opening: Opening, bank: u8) -> u8
-    ensures { λ r. ⌜ r ≡ groupOf opening bank ⌝ }
-{
-    bank / 2
-}
-
 // PREAB and REFAB name no bank.
 pub fn all_banks(kind: CommandKind) -> bool
     ensures { λ r. ⌜ r ≡ allBanks kind ⌝ }
@@ -39,20 +32,6 @@ pub fn all_banks(kind: CommandKind) -> bool
         CommandKind::Refab => true,
         CommandKind::Refpb => false,
     }
-}
-
-// How near two banks are: 0 the same, 1 of one group, 2 neither.
-pub fn nearness(opening: Opening, a: u8, b: u8) -> usize
-    ensures { λ r. ⌜ r ≡ nearnessOf opening a b ⌝ }
-    ensures { λ r. ⌜ r < 3 ⌝ }
-{
-    if a == b {
-        return 0;
-    }
-    if group_of(opening, a) == group_of(opening, b) {
-        return 1;
-    }
-    2
 }
 
 // The class of two kinds whose banks are so near.

@@ -2,7 +2,7 @@
 ghost use mathlib.Core.Path.{_≡_};
 ghost use Prim.Native.Nat.{_<_, _-_};
 ghost use Rattle.timing.specs.Kinds.{codeOf};
-ghost use Rattle.timing.specs.Rules.{kindAt, tableGap};
+ghost use Rattle.timing.specs.Rules.{tableGap};
 ghost use Rattle.timing.specs.Table.{gapTable};
 use crate::kinds::CommandKind;
 use crate::rules::Opening;
@@ -323,21 +323,6 @@ pub fn place_of(kind: CommandKind) -> usize
     ensures { λ r. ⌜ (r ≡ codeOf kind - 1) × (r < 7) ⌝ }
 {
     kind.number() as usize - 1
-}
-
-// The kind at a place of a row or a column.
-pub fn kind_at(place: usize) -> CommandKind
-    ensures { λ r. ⌜ r ≡ kindAt place ⌝ }
-{
-    match place {
-        1 => CommandKind::Rd,
-        2 => CommandKind::Wr,
-        3 => CommandKind::Prepb,
-        4 => CommandKind::Preab,
-        5 => CommandKind::Refab,
-        6 => CommandKind::Refpb,
-        _ => CommandKind::Act,
-    }
 }
 
 // The gap number at an entry of the table; 0 in a mode that no opening has.
