@@ -15,7 +15,6 @@ use Rattle.statements.specs.Bursts.{over, verdictIn}
 use Rattle.statements.proofs.BurstLaws.{bursts, Bursting, bursting-start, bursting-end, bursting-refused, bursting-accepted, leftFrom, left-all, left-none, left-one}
 use Rattle.scan.specs.Rows.{stamps, gapSteps}
 use Rattle.scan.proofs.LentLaws.{stamps-set}
-use Rattle.bursts.specs.Taken.{Takes}
 use borrow.Author.Needs.{needs}
 use Rattle.bursts.proofs.pieces.offer_pieces.Statement.{statement}
 use Rattle.bursts.proofs.pieces.offer_pieces.Tie as tie
@@ -59,8 +58,8 @@ part-read-offer-end c = search needs
 read-offer-requires : tie.Need-read-offer-requires Inv-loop μ-loop
 read-offer-requires c κs = let p = c .before .before .before .before .before .before .before .before .before .before .before .before .args .pieces .now in let i = c .before .before .loop .i in rw (piece-is i p) (piece-size i p (c .before .loop-test .taken))
 
-take-one-requires : tie.Need-take-one-requires Inv-loop μ-loop
-take-one-requires c κs = record { table-is = c .before .before .before .before .before .before .before .before .before .before .before .before .before .before .table .ensures; steps-are = c .before .before .before .before .before .before .before .before .loop .inv .3 }
+judge-one-requires : tie.Need-judge-one-requires Inv-loop μ-loop
+judge-one-requires c κs = record { table-is = c .before .before .before .before .before .before .before .before .before .before .before .before .before .before .table .ensures; steps-are = c .before .before .before .before .before .before .before .before .loop .inv .3 }
 
 same-length : tie.Need-same-length Inv-loop μ-loop
 same-length c = c .before .before .before .before .before .before .before .before .before .before .before .before .loop .inv .1
@@ -69,61 +68,59 @@ returns : tie.Need-returns Inv-loop μ-loop
 returns c =
     let a = c .before .before .before .before .before .before .before .before .before .before .before .before .before .before .before .before .before .before .before .before .before .before .args in
     let l = c .before .before .before .before .before .before .before .before .before .before .before .before .loop in
-    let more = c .before .before .before .before .before .before .before .before .before .before .before .loop-test .taken in
     let p = a .pieces .now in
-    let asked = c .before .before .before .before .before .before .before .before .before .read-offer in
-    let is : asked .result ≡ offerFrom (piece (l .i) p) = rw (piece-is (l .i) p) at (asked .ensures) in
+    let is : c .before .before .before .before .before .before .before .before .before .read-offer .result ≡ offerFrom (piece (l .i) p) = rw (piece-is (l .i) p) at (c .before .before .before .before .before .before .before .before .before .read-offer .ensures) in
     let most = c .before .before .before .before .before .before .before .before .before .before .before .before .before .before .before .before .before .before .before .room-of .ensures ∙ ap roomOf (sym (l .inv .1)) in
-    let took = rw (l .inv .2, most) at (c .before .before .before .take-one .ensures (l .session .entries)) in
+    let judged = rw (l .inv .2, most) at (c .before .before .before .judge-one .ensures (l .session .entries)) in
     let here = ap (verdictIn (over (l .session) (l .journal))) (sym is) in
-    bursts (bursting-refused (a .t1) (a .journal .now) (offersFrom p) (l .session) (l .journal) (l .i) (offerFrom (piece (l .i) p)) (leftFrom p (l .i + 1)) (rw (left-one p (l .i) more) at (l .inv .0)) _ (here ∙ took .refuses (c .if1 .taken)))
+    bursts (bursting-refused (a .t1) (a .journal .now) (offersFrom p) (l .session) (l .journal) (l .i) (offerFrom (piece (l .i) p)) (leftFrom p (l .i + 1)) (rw (left-one p (l .i) (c .before .before .before .before .before .before .before .before .before .before .before .loop-test .taken)) at (l .inv .0)) _ (here ∙ judged .refuses (c .if1 .taken)))
 
 write-command-requires : tie.Need-write-command-requires Inv-loop μ-loop
 write-command-requires c κs =
     let l = c .before .before .before .before .before .before .before .before .before .before .before .before .before .before .before .loop in
     let most = c .before .before .before .before .before .before .before .before .before .before .before .before .before .before .before .before .before .before .before .before .before .before .room-of .ensures ∙ ap roomOf (sym (l .inv .1)) in
-    let took = rw (l .inv .2, most) at (c .before .before .before .before .before .before .take-one .ensures (l .session .entries)) in
-    omega (arith, took .free (c .before .before .before .if1 .left))
+    let judged = rw (l .inv .2, most) at (c .before .before .before .before .before .before .judge-one .ensures (l .session .entries)) in
+    omega (arith, judged .free (c .before .before .before .if1 .left))
+
+store-one-requires : tie.Need-store-one-requires Inv-loop μ-loop
+store-one-requires c κs = search needs
 
 mul-entry : tie.Need-mul-entry Inv-loop μ-loop
-mul-entry c = omega (arith, (c .before .before .before .before .before .before .before .before .before .before .take-one .ensures []) .at)
+mul-entry c = omega (arith, (c .before .store-one .ensures (c .before .before .before .before .before .before .before .before .before .before .before .before .before .before .before .before .before .before .before .before .before .loop .session .terms) []) .at)
 
 element-set-from-entry : tie.Need-element-set-from-entry Inv-loop μ-loop
-element-set-from-entry c = omega (arith, (c .before .before .before .before .before .before .before .before .before .before .take-one .ensures []) .at)
+element-set-from-entry c = omega (arith, (c .before .store-one .ensures (c .before .before .before .before .before .before .before .before .before .before .before .before .before .before .before .before .before .before .before .before .before .loop .session .terms) []) .at)
 
 mul-stamp : tie.Need-mul-stamp Inv-loop μ-loop
-mul-stamp c = omega (arith, (c .before .before .before .before .before .before .before .before .before .before .before .take-one .ensures []) .slot)
+mul-stamp c = omega (arith, (c .before .before .store-one .ensures (c .before .before .before .before .before .before .before .before .before .before .before .before .before .before .before .before .before .before .before .before .before .before .loop .session .terms) []) .slot)
 
 element-set-from-stamp : tie.Need-element-set-from-stamp Inv-loop μ-loop
-element-set-from-stamp c = omega (arith, (c .before .before .before .before .before .before .before .before .before .before .before .take-one .ensures []) .slot)
+element-set-from-stamp c = omega (arith, (c .before .before .store-one .ensures (c .before .before .before .before .before .before .before .before .before .before .before .before .before .before .before .before .before .before .before .before .before .before .loop .session .terms) []) .slot)
 
 mul-last : tie.Need-mul-last Inv-loop μ-loop
-mul-last c = omega (arith, (c .before .before .before .before .before .before .before .before .before .before .before .take-one .ensures []) .slot)
+mul-last c = omega (arith, (c .before .before .store-one .ensures (c .before .before .before .before .before .before .before .before .before .before .before .before .before .before .before .before .before .before .before .before .before .before .loop .session .terms) []) .slot)
 
 array-write-last : tie.Need-array-write-last Inv-loop μ-loop
-array-write-last c = omega (arith, (c .before .before .before .before .before .before .before .before .before .before .before .take-one .ensures []) .slot)
+array-write-last c = omega (arith, (c .before .before .store-one .ensures (c .before .before .before .before .before .before .before .before .before .before .before .before .before .before .before .before .before .before .before .before .before .before .loop .session .terms) []) .slot)
 
 add-i : tie.Need-add-i Inv-loop μ-loop
-add-i c = omega (arith, c .before .before .before .before .before .before .before .before .before .before .before .before .before .before .before .before .before .before .before .before .loop-test .taken, c .before .before .before .before .before .before .before .before .before .before .before .before .before .before .before .before .before .before .before .before .before .before .before .before .before .before .before .before .before .before .before .good .1 .1 .0)
+add-i c = omega (arith, c .before .before .before .before .before .before .before .before .before .before .before .before .before .before .before .before .before .before .before .before .before .before .loop-test .taken, c .before .before .before .before .before .before .before .before .before .before .before .before .before .before .before .before .before .before .before .before .before .before .before .before .before .before .before .before .before .before .before .before .before .good .1 .1 .0)
 
 loop-less : tie.Need-loop-less Inv-loop μ-loop
-loop-less c = omega (arith, c .before .before .before .before .before .before .before .before .before .before .before .before .before .before .before .before .before .before .before .before .loop-test .taken)
+loop-less c = omega (arith, c .before .before .before .before .before .before .before .before .before .before .before .before .before .before .before .before .before .before .before .before .before .before .loop-test .taken)
 
 loop-again : tie.Need-loop-again Inv-loop μ-loop
 loop-again c =
-    let a = c .before .before .before .before .before .before .before .before .before .before .before .before .before .before .before .before .before .before .before .before .before .before .before .before .before .before .before .before .before .before .before .args in
-    let l = c .before .before .before .before .before .before .before .before .before .before .before .before .before .before .before .before .before .before .before .before .before .loop in
-    let more = c .before .before .before .before .before .before .before .before .before .before .before .before .before .before .before .before .before .before .before .before .loop-test .taken in
+    let a = c .before .before .before .before .before .before .before .before .before .before .before .before .before .before .before .before .before .before .before .before .before .before .before .before .before .before .before .before .before .before .before .before .before .args in
+    let l = c .before .before .before .before .before .before .before .before .before .before .before .before .before .before .before .before .before .before .before .before .before .before .before .loop in
     let p = a .pieces .now in
-    let asked = c .before .before .before .before .before .before .before .before .before .before .before .before .before .before .before .before .before .before .read-offer in
-    let is : asked .result ≡ offerFrom (piece (l .i) p) = rw (piece-is (l .i) p) at (asked .ensures) in
-    let most = c .before .before .before .before .before .before .before .before .before .before .before .before .before .before .before .before .before .before .before .before .before .before .before .before .before .before .before .before .room-of .ensures ∙ ap roomOf (sym (l .inv .1)) in
-    let took = rw (l .inv .2, most) at (c .before .before .before .before .before .before .before .before .before .before .before .before .take-one .ensures (l .session .entries)) in
-    let here = ap (verdictIn (over (l .session) (l .journal))) (sym is) in
-    let passed = c .before .before .before .before .before .before .before .before .before .if1 .left in
-    let wrote = c .before .before .before .before .before .write-command in (
-      bursting-accepted (a .t1) (a .journal .now) (offersFrom p) (l .session) (l .journal) (l .i) (offerFrom (piece (l .i) p)) (leftFrom p (l .i + 1)) (rw (left-one p (l .i) more) at (l .inv .0)) _ _ _ _ (here ∙ took .takes passed) (took .state) (wrote .ensures),
-      c .before .before .before .before .journal .given ∙ l .inv .1,
+    let is : c .before .before .before .before .before .before .before .before .before .before .before .before .before .before .before .before .before .before .before .before .read-offer .result ≡ offerFrom (piece (l .i) p) = rw (piece-is (l .i) p) at (c .before .before .before .before .before .before .before .before .before .before .before .before .before .before .before .before .before .before .before .before .read-offer .ensures) in
+    let most = c .before .before .before .before .before .before .before .before .before .before .before .before .before .before .before .before .before .before .before .before .before .before .before .before .before .before .before .before .before .before .room-of .ensures ∙ ap roomOf (sym (l .inv .1)) in
+    let judged = rw (l .inv .2, most) at (c .before .before .before .before .before .before .before .before .before .before .before .before .before .before .judge-one .ensures (l .session .entries)) in
+    let stored = rw (l .inv .2) at (c .before .before .before .store-one .ensures (l .session .terms) (l .session .entries)) in
+    let here = ap (verdictIn (over (l .session) (l .journal))) (sym is) in (
+      bursting-accepted (a .t1) (a .journal .now) (offersFrom p) (l .session) (l .journal) (l .i) (offerFrom (piece (l .i) p)) (leftFrom p (l .i + 1)) (rw (left-one p (l .i) (c .before .before .before .before .before .before .before .before .before .before .before .before .before .before .before .before .before .before .before .before .before .before .loop-test .taken)) at (l .inv .0)) _ _ _ _ (here ∙ judged .takes (c .before .before .before .before .before .before .before .before .before .before .before .if1 .left)) (stored .state) (c .before .before .before .before .before .before .before .write-command .ensures),
+      c .before .before .before .before .before .before .journal .given ∙ l .inv .1,
       stamps-set (l .last) (l .session .last) _ _ (l .inv .2),
       l .inv .3,
     )
@@ -158,10 +155,11 @@ offer-pieces-spec =
     part-read-offer-start
     part-read-offer-end
     read-offer-requires
-    take-one-requires
+    judge-one-requires
     same-length
     returns
     write-command-requires
+    store-one-requires
     mul-entry
     element-set-from-entry
     mul-stamp

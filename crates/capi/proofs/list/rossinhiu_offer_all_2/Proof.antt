@@ -505,22 +505,22 @@ module _ {M : Type 1} (𝓤 : URA M) (H : Heap 𝓤) (A : Atoms 𝓤) (W : Given
             on = omega (arith, more, room′ .0)
 
             at-far : one .at * 32 < 2 ^ 64
-            at-far = omega (arith, took .at)
+            at-far = omega (arith, took .stored .at)
 
             slot-far : one .slot * 8 < 2 ^ 64
-            slot-far = omega (arith, took .slot)
+            slot-far = omega (arith, took .stored .slot)
 
             at-within : one .at < length (map E′.lowered (t .session .entries))
-            at-within = omega (arith, took .at, entries-are (t .session) (t .is))
+            at-within = omega (arith, took .stored .at, entries-are (t .session) (t .is))
 
             numbers-are-all : length (map (vint w64) (t .numbers)) ≡ 224
             numbers-are-all = length-map (t .numbers) (vint w64) ∙ t .are-numbers .1 .0 .1
 
             number-within : one .slot < length (map (vint w64) (t .numbers))
-            number-within = omega (arith, took .slot, numbers-are-all)
+            number-within = omega (arith, took .stored .slot, numbers-are-all)
 
             slot-within : one .slot < length (map Z′.lowered (t .session .last))
-            slot-within = omega (arith, took .slot, slots-are (t .session) (t .is))
+            slot-within = omega (arith, took .stored .slot, slots-are (t .session) (t .is))
 
         answered : Sq W Took (runs Cs Λ En (behind 14 mir-of.turn-1) (anyQ (Turned t)))
         answered = arms ! (var ! 44 refl) (λ bad. refuses bad) (λ ok. accepts (is-accepted one ok))

@@ -48,7 +48,7 @@ use Rattle.judging.proofs.answers.Answer as R
 use Rattle.judging.proofs.answers.Answer.Laws as R′
 use Rattle.statements.specs.Bursts.{Bursts}
 use Rattle.statements.proofs.BurstLaws.{bursts, Bursting, bursting-start, bursting-end, bursting-refused, bursting-accepted}
-use Rattle.bursts.specs.Taken.{Takes, TakesAny, storedIn}
+use Rattle.bursts.specs.Taken.{Takes, TakesAny, storedIn, storedOf}
 use Rattle.bursts.specs.declared.taken.Taken.{Taken}
 use Rattle.bursts.specs.declared.pieces.Burst.{Burst}
 use Rattle.capi.proofs.Element.{lowered-is, set-is, alone-is}
@@ -128,11 +128,11 @@ module _ (s : Session) (p : IsSession s) where
   pub number-fits : s .terms .number < 2 ^ 32
   number-fits = p .1 .1 .1 .1 .1 .0 .1 .1 .1 .1 .0 .1
 
-  pub stored-is : (t : Taken) → IsTaken t → IsSession (storedIn s t)
+  pub stored-is : (t : Taken) → IsTaken t → IsSession (storedIn s (storedOf t))
   stored-is t k =
       let last = set-is Z.the-field (t .stamp) (Z′.lowered (t .stamp)) (stamp-is t k) 224 (s .last) (t .slot) _ (p .1 .1 .0) in
       let entries = set-is E.the-field (t .entry) (E′.lowered (t .entry)) (entry-is t k) 64 (s .entries) (t .at) _ (p .1 .1 .1 .0) in
-      lowered-is S.the-row S′.lowered (S′.lowers .val-is) (storedIn s t) _ ((_, (_, (P′.lowered (t .next) ∷ [], (p .0 .1 .1 .1 .0, tt)))), (refl, (last, (entries, (next-is t k, (p .1 .1 .1 .1 .1 .0, tt))))))
+      lowered-is S.the-row S′.lowered (S′.lowers .val-is) (storedIn s (storedOf t)) _ ((_, (_, (P′.lowered (t .next) ∷ [], (p .0 .1 .1 .1 .0, tt)))), (refl, (last, (entries, (next-is t k, (p .1 .1 .1 .1 .1 .0, tt))))))
 
   pub burst-is : (n : ℕ) (a : Answer) → n < 2 ^ 64 → IsAnswer a → IsBurst (record { session = s; count = n; answer = a })
   burst-is n a l r = ((S′.lowered s ∷ [], (vint w64 n ∷ [], (R′.lowered a ∷ [], tt))), (refl, (p, ((refl, l), (r, tt)))))
@@ -220,21 +220,21 @@ module _ (s₀ : Session) (lent : List ℕ) (os : List Offer) (steps : List ℕ)
         here = rw (t .same) took
 
         pub one-refused : one .answer .number ≢ 0 → Ends (record { session = t .session; count = t .i; answer = one .answer }) (t .journal)
-        one-refused some = bursts (bursting-refused s₀ lent os (t .session) (t .journal) (t .i) offer (drop (t .i + 1) os) goes-one _ (here .refuses some))
+        one-refused some = bursts (bursting-refused s₀ lent os (t .session) (t .journal) (t .i) offer (drop (t .i + 1) os) goes-one _ (here .judged .refuses some))
 
         -- what `write_command` asks, and what it ensures of the last bytes
         pub has-room : one .answer .number ≡ 0 → recordSize * t .session .progress .records + recordSize ≤ length (t .journal)
-        has-room none = omega (arith, here .free none)
+        has-room none = omega (arith, here .judged .free none)
 
         abbrev pub Written : List ℕ → Type 0
         Written j = j ≡ putAt (t .journal) (recordSize * t .session .progress .records) (bytesOf (command (t .session .terms .number) (one .command) (offer .cycle .0)))
 
         abbrev pub next : one .answer .number ≡ 0 → (j : List ℕ) → Written j → length j ≡ length (t .journal) → IsTaken one → Turn
         next none j wrote l k = record {
-          session = storedIn (t .session) one;
+          session = storedIn (t .session) (storedOf one);
           journal = j;
           i = t .i + 1;
-          goes = bursting-accepted s₀ lent os (t .session) (t .journal) (t .i) offer (drop (t .i + 1) os) goes-one _ _ _ _ (here .takes none) (here .state) wrote;
+          goes = bursting-accepted s₀ lent os (t .session) (t .journal) (t .i) offer (drop (t .i + 1) os) goes-one _ _ _ _ (here .judged .takes none) (here .stored .state) wrote;
           within = omega arith;
           same = l ∙ t .same;
           is = stored-is (t .session) (t .is) one k;
