@@ -63,7 +63,7 @@ extern "C" {
 #define ROSSINHIU_TOO_EARLY 7       /* too early: a gap asks for a later cycle */
 #define ROSSINHIU_NO_DEPTH 8        /* nothing can be taken back: depth is 0 */
 #define ROSSINHIU_NO_ROOM 9         /* no room for a record, or a stored journal too long */
-#define ROSSINHIU_BAD_SETTINGS 10   /* ratio not 1, 2, 4; ranks not 1, 2; mode not 0, 1 */
+#define ROSSINHIU_BAD_SETTINGS 10   /* ratio not 1, 2, 4; ranks not 1, 2; mode not 0, 2 */
 #define ROSSINHIU_BAD_RECORD 11     /* bad record in a restore */
 #define ROSSINHIU_BAD_TCK 13        /* tCK not 1 to 1,000,000 ps */
 #define ROSSINHIU_BAD_TIME 14       /* a time above 4,294,967,295 ps, or a gap above 65,535 */
@@ -143,7 +143,8 @@ struct rossinhiu_sheet rossinhiu_gaps(uint64_t tck, struct rossinhiu_times times
 
 /*
  * Opens a session for a client and writes its record. `ratio` is 1, 2 or 4 DRAM cycles to a controller cycle, `ranks` 1 or 2, `mode`
- * 0 (16 banks) or 1 (bank groups). A session that was open ends; a refused opening leaves it in force.
+ * 0 (16 banks) or 2 (four groups of four). A session that was open ends; a refused opening leaves it in force. Mode 1, eight groups of
+ * two, stands in old journals alone: a session restored with it goes on, and none is opened.
  * number: 10, 9, or 0.
  */
 struct rossinhiu_opened {

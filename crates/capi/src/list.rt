@@ -23,7 +23,7 @@ pub extern "C" fn rossinhiu_offer_all_2(
     ensures { λ r. ⌜ Bursts session (now (journal .entry)) (now (offers .entry)) (r .count) (replyIn (r .answer)) (r .session) (now (journal .exit)) ⌝ }
 {
     let most = room_of(journal.len());
-    let gap_table = table();
+    let gap_table = table(session.terms.opening);
     let steps = gap_steps(session.terms.rounded);
     let mut last = numbers(session.last);
     let mut i = 0;

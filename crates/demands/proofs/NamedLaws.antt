@@ -19,7 +19,7 @@ use Rattle.statements.specs.Statements.{Restores}
 use Rattle.statements.proofs.KeepsLaws.{fresh-rep}
 use Rattle.statements.specs.Calls.{Outcome, Move, asks-status, Heard, replied, stated, handed, Does}
 use Rattle.demands.specs.Runs.{Plays, ends, plays}
-use Rattle.demands.specs.Named.{blank, client7, client9, shortMoves, shortAnswers, windowMoves, windowAnswers, twoOpenings}
+use Rattle.demands.specs.Named.{blank, client7, client9, shortMoves, shortAnswers, windowMoves, windowAnswers, twoOpenings, old, oldJournal, oldLent, oldMoves, oldAnswers}
 use Rattle.demands.proofs.MoveLaws.{answerOn, verdictOn, does-on}
 use Rattle.demands.proofs.RanLaws.{Holding, does-holds}
 
@@ -90,3 +90,18 @@ last-opening {next = next} told =
       (λ fresh. absurd (omega (arith, rep .records, ap (λ (s : Session). s .progress .records) fresh))),
       λ lent after status last d. ap client-of (does-on d (opening client9 ∷ opening client7 ∷ []) rep .answer),
     )
+
+-- a session that was opened in mode 1 goes on with groups of two once it is restored; a live opening of that mode is refused, and leaves it in force
+restored-old : restoreOf oldJournal ≡ restored (opening old ∷ [])
+unfolding firstOf fits follows standing le gapBytes bytesOf value gapsFrom sameBytes recordIn written pieces replay restoreOf oldJournal
+restored-old = refl
+
+pub old-run : {number at : ℕ} {next last : Session} {after : List ℕ} {xs : List Heard} → Restores oldJournal number at next → Plays next oldLent oldMoves xs last after
+    → (number ≡ 0) × (xs ≡ oldAnswers)
+unfolding rules covers matching reach floor pairAsks acts fourAsks asks latest earliest standing firstOf openOn offerOn earliestOn takeBackOn statusOn answersOn oldMoves oldAnswers oldJournal le gapBytes bytesOf written
+old-run {next = next} told p =
+    let rep : Rep next (opening old ∷ []) = subst (λ (r : Restored). Rep next (historyOf r)) restored-old (told .state) in
+    (told .answer ∙ ap restoreNumber restored-old, played 11 (opening old ∷ []) {first = oldLent} (record { rep = rep; room-is = refl; begins = refl }) p ∙ computed)
+  where
+    computed : answersOn 11 (opening old ∷ []) oldLent oldMoves ≡ oldAnswers
+    computed = refl

@@ -17,7 +17,7 @@ abbrev pub client7 : Settings
 client7 = settings 4 0 (changed 20 40 gapsA)
 
 abbrev pub client9 : Settings
-client9 = record { opening = record { ratio = 1; ranks = 2; mode = 1; client = 9 }; gaps = gaps gapsA }
+client9 = record { opening = record { ratio = 1; ranks = 2; mode = 2; client = 9 }; gaps = gaps gapsA }
 
 -- one ACT of bank 0, and what may follow it
 unfoldable pub shortMoves : List Move
@@ -81,3 +81,32 @@ windowAnswers =
 -- the journal of two openings, client 7's and then client 9's
 unfoldable pub twoOpenings : List ℕ
 twoOpenings = bytesOf (opening client7) ++ bytesOf (opening client9)
+
+-- a journal whose opening is of mode 1, and what follows live: groups of two, and no such opening any more
+abbrev pub old : Settings
+old = settings 1 1 gapsA
+
+unfoldable pub oldJournal : List ℕ
+oldJournal = bytesOf (opening old)
+
+-- with room for ten records more
+abbrev pub oldLent : List ℕ
+oldLent = oldJournal ++ blank
+
+unfoldable pub oldMoves : List Move
+oldMoves =
+    calls (offer 2 0 0 10) ∷
+    asks-earliest 2 0 1 ∷
+    asks-earliest 2 0 2 ∷
+    calls (open-session old) ∷
+    asks-earliest 2 0 2 ∷
+    []
+
+unfoldable pub oldAnswers : List Heard
+oldAnswers =
+    replied (reply 0 10 0) ∷
+    replied (reply 0 18 6) ∷
+    replied (reply 0 16 7) ∷
+    replied (reply 10 0 0) ∷
+    replied (reply 0 16 7) ∷
+    []

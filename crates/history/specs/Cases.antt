@@ -1,4 +1,4 @@
--- The cases checked by hand, K1 to K13: settings, the records that stand, a question, and the answer that it must get.
+-- The cases checked by hand, K1 to K13, and those of mode 2: settings, the records that stand, a question, and the answer that it must get.
 use mathlib.Core.Bool.{Bool, true, _&&_}
 use mathlib.Core.List.{List, [], _∷_, _++_, map, reverse}
 use Prim.Native.Nat.{ℕ, _+_, _-_, _%_}
@@ -91,6 +91,16 @@ kThirteen =
 
 unfoldable pub kCases : List Case
 kCases = kFirst ++ kThirteen
+
+-- mode 2, no K: four groups of four
+unfoldable pub groupCases : List Case
+groupCases =
+    let grouped = settings 1 2 gapsA in
+    case grouped (at Rd 0 10 ∷ []) (earliest Rd 3) (reply 0 18 6) ∷
+    case grouped (at Rd 0 10 ∷ []) (earliest Rd 4) (reply 0 16 7) ∷
+    case grouped (at Wr 0 10 ∷ []) (earliest Rd 3) (reply 0 40 11) ∷
+    case grouped (at Wr 0 10 ∷ []) (earliest Rd 4) (reply 0 35 12) ∷
+    []
 
 abbrev pub answered : History → Question → Reply
 answered h (earliest k bank) = earliestOn h (codeOf k) 0 bank

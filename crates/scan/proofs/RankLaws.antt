@@ -57,7 +57,7 @@ max-between a b d = omega arith
 
 -- what is lent makes a row ready, and what it asks for is what the state's arrays ask for
 module _ (table ns : List ℕ) (terms : Terms) (progress : Progress) (c : Command) where
-  pub lent-ready : (given : List ℕ) → Lent table given terms → c .bank < 16 → Ready table given (spotOf c)
+  pub lent-ready : (given : List ℕ) → Lent table given terms → c .bank < 16 → Ready table given (terms .opening) (spotOf c)
   lent-ready given l bank =
       let below : (i : ℕ) → getD given i 0 < 2097152 = rw (l .steps-are) (gap-steps-below (terms .rounded)) in
       let none : getD given 0 0 ≡ 0 = rw (l .steps-are) (sym (gap-steps-at (terms .rounded) 0 (omega arith))) in

@@ -3,7 +3,7 @@ use mathlib.Core.Path.{_≡_, refl, sym, _∙_, ap}
 use mathlib.Core.Logic.{_≢_}
 use mathlib.Core.Bool.{Bool, true, false, cond, _&&_, _||_}
 use mathlib.Core.List.{List}
-use Prim.Native.Nat.{ℕ, zero, suc, _+_, _-_, _*_, _/_, _%_, _<_, _≤_, max}
+use Prim.Native.Nat.{ℕ, _+_, _-_, _*_, _/_, _%_, _<_, _≤_, max}
 use native.Mathlib.Nat.{le-trans, le-antisymm, le-max-left, le-max-right, max-le}
 use native.Mathlib.Omega.{arith}
 use lib.Dec.{T, eqb, ltb}
@@ -16,7 +16,7 @@ use Rattle.timing.specs.Rules.{groupOf, nearness, classFor}
 use Rattle.timing.proofs.TableLaws.{silent, silent-gap}
 use Rattle.timing.proofs.Truth.{and-left, and-right, true-is}
 use Rattle.scan.specs.Scan.{askOf}
-use Rattle.scan.specs.Rows.{keptAt, maxTo, stepFrom, rowOf, bankAsk, rowAsk, pairKept, fourKept, farKept, mateOf, pairBeside, nearAsk}
+use Rattle.scan.specs.Rows.{keptAt, maxTo, stepFrom, rowOf, bankAsk, rowAsk, pairKept, fourKept, farKept, mateOf, pairBeside, besideOf, nearAsk}
 use Rattle.scan.proofs.MaxLaws.{max-above, max-most}
 
 -- an ask rises with its stamp
@@ -51,27 +51,45 @@ ask-either a b s w la lb = go (ltb a b) refl
 abbrev mate : ℕ → ℕ
 mate = mateOf
 
-pub mate-near : (o : Opening) (b : ℕ) → nearness o (mate b) b ≡ 1
-mate-near o b =
-    let apart : mate b ≢ b = λ z. omega (arith, z) in
-    let same : mate b / 2 ≡ b / 2 = omega arith in
-    rw (ne-eqb (mate b) b apart, same, eq-eqb (b / 2) (b / 2) refl)
-
-mate-only : (o : Opening) (i b : ℕ) → i ≢ b → groupOf o i ≡ groupOf o b → i ≡ mate b
-mate-only o i b n e = omega (arith, n, e)
+mate-only : (i b : ℕ) → i ≢ b → i / 2 ≡ b / 2 → i ≡ mate b
+mate-only i b n e = omega (arith, n, e)
 
 mate-low : (b : ℕ) → b < 16 → mate b < 16
 mate-low b l = omega arith
 
--- a bank of another group stands in the pair beside, or in another four
-beside-or-far : (o : Opening) (i b : ℕ) → groupOf o i ≢ groupOf o b → i / 4 ≡ b / 4 → i / 2 ≡ pairBeside b
-beside-or-far o i b n e = omega (arith, n, e)
+beside-only : (i b : ℕ) → i / 2 ≢ b / 2 → i / 4 ≡ b / 4 → i / 2 ≡ pairBeside b
+beside-only i b n e = omega (arith, n, e)
 
-beside-group : (o : Opening) (i b : ℕ) → i / 2 ≡ pairBeside b → groupOf o i ≢ groupOf o b
-beside-group o i b e z = omega (arith, e, z)
+module _ (o : Opening) (b : ℕ) where
+  near-group : (i : ℕ) → i ≢ b → groupOf o i ≡ groupOf o b → nearness o i b ≡ 1
+  near-group i n e = rw (ne-eqb i b n, eq-eqb (groupOf o i) (groupOf o b) e)
 
-far-group : (o : Opening) (i b : ℕ) → i / 4 ≢ b / 4 → groupOf o i ≢ groupOf o b
-far-group o i b n z = omega (arith, n, z)
+  far-group : (i : ℕ) → groupOf o i ≢ groupOf o b → nearness o i b ≡ 2
+  far-group i n = rw (ne-eqb i b (λ z. n (ap (groupOf o) z)), ne-eqb (groupOf o i) (groupOf o b) n)
+
+  near-mate : nearness o (mate b) b ≡ 1
+  near-mate = near-group (mate b) (λ z. omega (arith, z)) (go (eqb (o .mode) 2))
+    where
+      go : (t : Bool) → cond t (mate b / 4) (mate b / 2) ≡ cond t (b / 4) (b / 2)
+      go true = omega arith
+      go false = omega arith
+
+  near-beside : (i : ℕ) → i / 2 ≡ pairBeside b → nearness o i b ≡ besideOf o
+  near-beside i e = go (eqb (o .mode) 2) refl
+    where
+      apart : i ≢ b
+      apart z = omega (arith, e, z)
+
+      go : (t : Bool) → eqb (o .mode) 2 ≡ t → nearness o i b ≡ cond t 1 2
+      go true m = near-group i apart (rw m (omega (arith, e)))
+      go false m = far-group i (λ z. let same : i / 2 ≡ b / 2 = rw m at z in omega (arith, e, same))
+
+  near-far : (i : ℕ) → i / 4 ≢ b / 4 → nearness o i b ≡ 2
+  near-far i n = far-group i (go (eqb (o .mode) 2))
+    where
+      go : (t : Bool) → cond t (i / 4) (i / 2) ≢ cond t (b / 4) (b / 2)
+      go true z = n z
+      go false z = omega (arith, n, z)
 
 -- THE NEWEST of two, of four, and of the fours that a bank is not of
 module _ (last : List ℕ) (row : ℕ) where
@@ -156,68 +174,78 @@ module _ (steps last : List ℕ) (o : Opening) (second : CommandKind) (spot : �
   abbrev kept : ℕ → ℕ
   kept i = keptAt last (row + i)
 
-  abbrev others : ℕ
-  others = max (farKept last row (bank / 4)) (pairKept last row (pairBeside bank))
+  abbrev beside : ℕ
+  beside = pairKept last row (pairBeside bank)
+
+  abbrev far : ℕ
+  far = farKept last row (bank / 4)
 
   -- a bank's ask, by its nearness
   ask-own : ask bank ≡ askOf (kept bank) (step 0)
   ask-own = rw (eq-eqb bank bank refl)
 
-  ask-mate : ask (mate bank) ≡ askOf (kept (mate bank)) (step 1)
-  ask-mate = rw (mate-near o bank)
+  ask-near : (i near : ℕ) → nearness o i bank ≡ near → ask i ≡ askOf (kept i) (step near)
+  ask-near i near e = rw e
 
-  ask-far : (i : ℕ) → groupOf o i ≢ groupOf o bank → ask i ≡ askOf (kept i) (step 2)
-  ask-far i n = rw (ne-eqb i bank (λ z. n (ap (groupOf o) z)), ne-eqb (groupOf o i) (groupOf o bank) n)
+  ask-mate : ask (mate bank) ≡ askOf (kept (mate bank)) (step 1)
+  ask-mate = ask-near (mate bank) 1 (near-mate o bank)
+
+  -- the step to the pair beside
+  pub step-beside : cond (eqb (o .mode) 2) (step 1) (step 2) ≡ step (besideOf o)
+  step-beside = go (eqb (o .mode) 2)
+    where
+      go : (t : Bool) → cond t (step 1) (step 2) ≡ step (cond t 1 2)
+      go true = refl
+      go false = refl
 
   -- a row whole, by its newest stamp for each nearness
-  abbrev three : ℕ
-  three = max (ask bank) (max (askOf (kept (mate bank)) (step 1)) (askOf others (step 2)))
+  abbrev rest : ℕ
+  rest = max (askOf beside (step (besideOf o))) (askOf far (step 2))
+
+  abbrev four : ℕ
+  four = max (ask bank) (max (askOf (kept (mate bank)) (step 1)) rest)
 
   module _ (l : bank < 16) where
     far-low : bank / 4 < 4
     far-low = omega arith
 
-    others-above : (i : ℕ) → i < 16 → groupOf o i ≢ groupOf o bank → kept i ≤ others
-    others-above i m n = go (eqb (i / 4) (bank / 4)) refl
-      where
-        go : (t : Bool) → eqb (i / 4) (bank / 4) ≡ t → kept i ≤ others
-        go true e =
-            let is = beside-or-far o i bank n (eqb-true (i / 4) (bank / 4) e) in
-            le-trans (rw is at (pair-above last row i)) (le-max-right (farKept last row (bank / 4)) (pairKept last row (pairBeside bank)))
-        go false e =
-            le-trans (far-above last row (bank / 4) far-low i m (eqb-false (i / 4) (bank / 4) e))
-            (le-max-left (farKept last row (bank / 4)) (pairKept last row (pairBeside bank)))
+    rest-below : rest ≤ four
+    rest-below = le-trans (le-max-right (askOf (kept (mate bank)) (step 1)) rest) (le-max-right (ask bank) (max (askOf (kept (mate bank)) (step 1)) rest))
 
-    others-most : askOf others (step 2) ≤ maxTo ask 16
-    others-most =
-        let from : (i : ℕ) → i < 16 → groupOf o i ≢ groupOf o bank → askOf (kept i) (step 2) ≤ maxTo ask 16 = λ i m n. rw (ask-far i n) at (max-above ask 16 i m) in
-        ask-either (farKept last row (bank / 4)) (pairKept last row (pairBeside bank)) (step 2) (maxTo ask 16)
-        (far-most last row (step 2) (maxTo ask 16) (bank / 4) far-low (λ i m n. from i m (far-group o i bank n)))
-        (pair-most last row (step 2) (maxTo ask 16) (pairBeside bank) (λ i e. from i (omega (arith, e)) (beside-group o i bank e)))
+    mate-below : askOf (kept (mate bank)) (step 1) ≤ four
+    mate-below = le-trans (le-max-left (askOf (kept (mate bank)) (step 1)) rest) (le-max-right (ask bank) (max (askOf (kept (mate bank)) (step 1)) rest))
 
-    ask-three : (i : ℕ) → i < 16 → ask i ≤ three
-    ask-three i m = go (eqb i bank) (eqb (groupOf o i) (groupOf o bank)) refl refl
+    ask-four : (i : ℕ) → i < 16 → ask i ≤ four
+    ask-four i m = go (eqb i bank) (eqb (i / 2) (bank / 2)) (eqb (i / 4) (bank / 4)) refl refl refl
       where
-        go : (x y : Bool) → eqb i bank ≡ x → eqb (groupOf o i) (groupOf o bank) ≡ y → ask i ≤ three
-        go true y p q = let is = eqb-true i bank p in rw is (le-max-left (ask bank) (max (askOf (kept (mate bank)) (step 1)) (askOf others (step 2))))
-        go false true p q =
-            let is = mate-only o i bank (eqb-false i bank p) (eqb-true (groupOf o i) (groupOf o bank) q) in
+        go : (x y z : Bool) → eqb i bank ≡ x → eqb (i / 2) (bank / 2) ≡ y → eqb (i / 4) (bank / 4) ≡ z → ask i ≤ four
+        go true y z p q r = let is = eqb-true i bank p in rw is (le-max-left (ask bank) (max (askOf (kept (mate bank)) (step 1)) rest))
+        go false true z p q r =
+            let is = mate-only i bank (eqb-false i bank p) (eqb-true (i / 2) (bank / 2) q) in
             let here : ask i ≡ askOf (kept (mate bank)) (step 1) = ap ask is ∙ ask-mate in
-            rw here
-            (le-trans (le-max-left (askOf (kept (mate bank)) (step 1)) (askOf others (step 2))) (le-max-right (ask bank) (max (askOf (kept (mate bank)) (step 1)) (askOf others (step 2)))))
-        go false false p q =
-            let n = eqb-false (groupOf o i) (groupOf o bank) q in
-            rw (ask-far i n)
-            (le-trans (ask-mono (kept i) others (step 2) (others-above i m n))
-            (le-trans (le-max-right (askOf (kept (mate bank)) (step 1)) (askOf others (step 2))) (le-max-right (ask bank) (max (askOf (kept (mate bank)) (step 1)) (askOf others (step 2))))))
+            rw here mate-below
+        go false false true p q r =
+            let is = beside-only i bank (eqb-false (i / 2) (bank / 2) q) (eqb-true (i / 4) (bank / 4) r) in
+            rw (ask-near i (besideOf o) (near-beside o bank i is))
+            (le-trans (ask-mono (kept i) beside (step (besideOf o)) (rw is at (pair-above last row i)))
+            (le-trans (le-max-left (askOf beside (step (besideOf o))) (askOf far (step 2))) rest-below))
+        go false false false p q r =
+            let n = eqb-false (i / 4) (bank / 4) r in
+            rw (ask-near i 2 (near-far o bank i n))
+            (le-trans (ask-mono (kept i) far (step 2) (far-above last row (bank / 4) far-low i m n))
+            (le-trans (le-max-right (askOf beside (step (besideOf o))) (askOf far (step 2))) rest-below))
 
-    pub near-whole : nearAsk last row bank (step 0) (step 1) (step 2) ≡ rowAsk steps last o second spot first
+    rest-most : rest ≤ maxTo ask 16
+    rest-most =
+        let from : (i near : ℕ) → i < 16 → nearness o i bank ≡ near → askOf (kept i) (step near) ≤ maxTo ask 16 = λ i near m e. rw (ask-near i near e) at (max-above ask 16 i m) in
+        max-le (pair-most last row (step (besideOf o)) (maxTo ask 16) (pairBeside bank) (λ i e. from i (besideOf o) (omega (arith, e)) (near-beside o bank i e)))
+        (far-most last row (step 2) (maxTo ask 16) (bank / 4) far-low (λ i m n. from i 2 m (near-far o bank i n)))
+
+    pub near-whole : nearAsk last row bank (step 0) (step 1) (step (besideOf o)) (step 2) ≡ rowAsk steps last o second spot first
     unfolding rowAsk
     near-whole =
         rw (sym ask-own)
-        (le-antisymm
-        (max-le (max-above ask 16 bank l) (max-le (rw ask-mate at (max-above ask 16 (mate bank) (mate-low bank l))) others-most))
-        (max-most ask three 16 ask-three))
+        (le-antisymm (max-le (max-above ask 16 bank l) (max-le (rw ask-mate at (max-above ask 16 (mate bank) (mate-low bank l))) rest-most)) (max-most ask four 16 ask-four))
 
   -- a row whole where either kind names no bank
   abbrev newest : ℕ

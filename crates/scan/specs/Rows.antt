@@ -3,6 +3,7 @@ use mathlib.Core.Path.{_≡_}
 use mathlib.Core.Bool.{cond}
 use mathlib.Core.List.{List, map}
 use Prim.Native.Nat.{ℕ, zero, suc, _+_, _-_, _*_, _/_, _%_, _<_, max}
+use lib.Dec.{eqb}
 use lib.ListN.{getD}
 use Rattle.timing.specs.declared.clocks.ControllerCycles.{ControllerCycles}
 use Rattle.timing.specs.declared.kinds.CommandKind.{CommandKind}
@@ -12,7 +13,7 @@ use Rattle.timing.specs.declared.rules.Opening.{Opening}
 use Rattle.timing.specs.Earliest.{tFAW}
 use Rattle.timing.specs.Kinds.{codeOf, sameKind}
 use Rattle.timing.specs.Rules.{nearness, classFor, tableGap, kindAt}
-use Rattle.timing.specs.Table.{gapTable}
+use Rattle.timing.specs.Table.{layerOf}
 use Rattle.session.specs.declared.stamps.Stamp.{Stamp}
 use Rattle.session.specs.declared.state.Progress.{Progress}
 use Rattle.session.specs.declared.state.Terms.{Terms}
@@ -86,20 +87,24 @@ mateOf b = b / 2 * 2 + (1 - b % 2)
 abbrev pub pairBeside : ℕ → ℕ
 pairBeside b = b / 4 * 2 + (1 - b / 2 % 2)
 
--- what a row asks for: by the steps of the bank itself, of its mate, and of all others
-abbrev pub nearAsk : List ℕ → ℕ → ℕ → ℕ → ℕ → ℕ → ℕ
-nearAsk last row b own mate others =
-    max (askOf (keptAt last (row + b)) own)
-    (max (askOf (keptAt last (row + mateOf b)) mate) (askOf (max (farKept last row (b / 4)) (pairKept last row (pairBeside b))) others))
+-- the nearness of the pair beside: in mode 2 it is of the bank's group
+abbrev pub besideOf : Opening → ℕ
+besideOf o = cond (eqb (o .mode) 2) 1 2
 
--- what is lent beside the stamps: the table, and the steps of the session's gaps
+-- what a row asks for: by the steps of the bank itself, of its mate, of the pair beside, and of all others
+abbrev pub nearAsk : List ℕ → ℕ → ℕ → ℕ → ℕ → ℕ → ℕ → ℕ
+nearAsk last row b own mate beside others =
+    max (askOf (keptAt last (row + b)) own)
+    (max (askOf (keptAt last (row + mateOf b)) mate) (max (askOf (pairKept last row (pairBeside b)) beside) (askOf (farKept last row (b / 4)) others)))
+
+-- what is lent beside the stamps: the table's layer for the session's opening, and the steps of its gaps
 pub record Lent (table steps : List ℕ) (terms : Terms) : Type 0 where
-  pub table-is : table ≡ gapTable
+  pub table-is : table ≡ layerOf (terms .opening)
   pub steps-are : steps ≡ gapSteps (terms .rounded)
 
 -- what a row needs
-pub record Ready (table steps : List ℕ) (spot : ℕ) : Type 0 where
-  pub table-is : table ≡ gapTable
+pub record Ready (table steps : List ℕ) (o : Opening) (spot : ℕ) : Type 0 where
+  pub table-is : table ≡ layerOf o
   pub steps-low : (i : ℕ) → getD steps i 0 < 2097152
   pub no-step : getD steps 0 0 ≡ 0
   pub spot-low : spot < 128

@@ -2,13 +2,13 @@
 // looked up there, and the rows of PREAB and REFAB are looked at whole: a state value may have a stamp at any bank.
 ghost use mathlib.Core.Path.{_≡_};
 ghost use mathlib.Core.Logic.{_⊎_};
-ghost use mathlib.Core.Bool.{_||_};
+ghost use mathlib.Core.Bool.{cond, _||_};
 ghost use Prim.Native.Nat.{ℕ, _+_, _%_, _<_, _≤_};
-ghost use lib.Dec.{T};
+ghost use lib.Dec.{T, eqb};
 ghost use lib.ListN.{getD};
 ghost use Rattle.timing.specs.declared.kinds.CommandKind.the-variants.{Act, Rd, Wr, Prepb, Preab, Refab, Refpb};
 ghost use Rattle.timing.specs.Kinds.{allBanks};
-ghost use Rattle.timing.specs.Table.{gapTable};
+ghost use Rattle.timing.specs.Table.{layerOf};
 ghost use Rattle.session.specs.State.{slots};
 ghost use Rattle.scan.specs.Rows.{stepFrom, rowOf, bankAsk, rowAsk, rankAsk, Ready};
 use crate::rows::ask_of;
@@ -24,20 +24,31 @@ use timing::table::gap_number;
 use timing::table::place_of;
 
 fn step(
-    table: &[u8; 294],
+    table: &[u8; 147],
     steps: &[u64; 21],
     opening: Opening,
     first: Kind,
     second: Kind,
     near: usize,
 ) -> u64
-    requires { ⌜ (now table ≡ gapTable) × ((i : ℕ) → getD (now steps) i 0 < 2097152) ⌝ }
+    requires { ⌜ (now table ≡ layerOf opening) × ((i : ℕ) → getD (now steps) i 0 < 2097152) ⌝ }
     requires { ⌜ near < 3 ⌝ }
     ensures { λ r. ⌜ (r ≡ stepFrom (now (steps .entry)) opening first second near) × (r < 2097152) ⌝ }
 {
     let class = class_for(first, second, near);
     let n = gap_number(table, opening, class, first, second);
     steps[n]
+}
+
+// Of the steps to a bank's mate and to all others that to the pair beside, which in mode 2 is of the bank's group.
+fn beside_of(opening: Opening, mate: u64, others: u64) -> u64
+    requires { ⌜ (mate < 2097152) × (others < 2097152) ⌝ }
+    ensures { λ r. ⌜ (r ≡ cond (eqb (opening .mode) 2) mate others) × (r < 2097152) ⌝ }
+{
+    if opening.mode == 2 {
+        return mate;
+    }
+    others
 }
 
 fn row_of(spot: usize, first: Kind) -> usize
@@ -49,7 +60,7 @@ fn row_of(spot: usize, first: Kind) -> usize
 
 // A kind that asks within a bank only.
 fn one_bank(
-    table: &[u8; 294],
+    table: &[u8; 147],
     steps: &[u64; 21],
     last: &[u64; SLOTS],
     opening: Opening,
@@ -57,7 +68,7 @@ fn one_bank(
     spot: usize,
     first: Kind,
 ) -> u64
-    requires { ⌜ Ready (now table) (now steps) spot ⌝ }
+    requires { ⌜ Ready (now table) (now steps) opening spot ⌝ }
     ensures { λ r. ⌜ r ≡ bankAsk (now (steps .entry)) (now (last .entry)) opening second spot first (spot % 16) ⌝ }
 {
     let at = row_of(spot, first) + spot % 16;
@@ -68,7 +79,7 @@ fn one_bank(
 }
 
 fn whole_row(
-    table: &[u8; 294],
+    table: &[u8; 147],
     steps: &[u64; 21],
     last: &[u64; SLOTS],
     opening: Opening,
@@ -76,17 +87,26 @@ fn whole_row(
     spot: usize,
     first: Kind,
 ) -> u64
-    requires { ⌜ Ready (now table) (now steps) spot ⌝ }
+    requires { ⌜ Ready (now table) (now steps) opening spot ⌝ }
     ensures { λ r. ⌜ r ≡ rowAsk (now (steps .entry)) (now (last .entry)) opening second spot first ⌝ }
 {
     let own = step(table, steps, opening, first, second, 0);
     let mate = step(table, steps, opening, first, second, 1);
     let others = step(table, steps, opening, first, second, 2);
-    near_ask(last, row_of(spot, first), spot % 16, own, mate, others)
+    let beside = beside_of(opening, mate, others);
+    near_ask(
+        last,
+        row_of(spot, first),
+        spot % 16,
+        own,
+        mate,
+        beside,
+        others,
+    )
 }
 
 fn flat_row(
-    table: &[u8; 294],
+    table: &[u8; 147],
     steps: &[u64; 21],
     last: &[u64; SLOTS],
     opening: Opening,
@@ -94,7 +114,7 @@ fn flat_row(
     spot: usize,
     first: Kind,
 ) -> u64
-    requires { ⌜ Ready (now table) (now steps) spot ⌝ }
+    requires { ⌜ Ready (now table) (now steps) opening spot ⌝ }
     requires { ⌜ T (allBanks first || allBanks second) ⌝ }
     ensures { λ r. ⌜ r ≡ rowAsk (now (steps .entry)) (now (last .entry)) opening second spot first ⌝ }
 {
@@ -103,14 +123,14 @@ fn flat_row(
 }
 
 fn of_act(
-    table: &[u8; 294],
+    table: &[u8; 147],
     steps: &[u64; 21],
     last: &[u64; SLOTS],
     opening: Opening,
     second: Kind,
     spot: usize,
 ) -> u64
-    requires { ⌜ Ready (now table) (now steps) spot ⌝ }
+    requires { ⌜ Ready (now table) (now steps) opening spot ⌝ }
     requires { ⌜ second ≡ Act ⌝ }
     ensures { λ r. ⌜ r ≡ rankAsk (now (steps .entry)) (now (last .entry)) opening second spot ⌝ }
 {
@@ -123,14 +143,14 @@ fn of_act(
 }
 
 fn of_data(
-    table: &[u8; 294],
+    table: &[u8; 147],
     steps: &[u64; 21],
     last: &[u64; SLOTS],
     opening: Opening,
     second: Kind,
     spot: usize,
 ) -> u64
-    requires { ⌜ Ready (now table) (now steps) spot ⌝ }
+    requires { ⌜ Ready (now table) (now steps) opening spot ⌝ }
     requires { ⌜ (second ≡ Rd) ⊎ (second ≡ Wr) ⌝ }
     ensures { λ r. ⌜ r ≡ rankAsk (now (steps .entry)) (now (last .entry)) opening second spot ⌝ }
 {
@@ -141,14 +161,14 @@ fn of_data(
 }
 
 fn of_prepb(
-    table: &[u8; 294],
+    table: &[u8; 147],
     steps: &[u64; 21],
     last: &[u64; SLOTS],
     opening: Opening,
     second: Kind,
     spot: usize,
 ) -> u64
-    requires { ⌜ Ready (now table) (now steps) spot ⌝ }
+    requires { ⌜ Ready (now table) (now steps) opening spot ⌝ }
     requires { ⌜ second ≡ Prepb ⌝ }
     ensures { λ r. ⌜ r ≡ rankAsk (now (steps .entry)) (now (last .entry)) opening second spot ⌝ }
 {
@@ -160,14 +180,14 @@ fn of_prepb(
 }
 
 fn of_preab(
-    table: &[u8; 294],
+    table: &[u8; 147],
     steps: &[u64; 21],
     last: &[u64; SLOTS],
     opening: Opening,
     second: Kind,
     spot: usize,
 ) -> u64
-    requires { ⌜ Ready (now table) (now steps) spot ⌝ }
+    requires { ⌜ Ready (now table) (now steps) opening spot ⌝ }
     requires { ⌜ second ≡ Preab ⌝ }
     ensures { λ r. ⌜ r ≡ rankAsk (now (steps .entry)) (now (last .entry)) opening second spot ⌝ }
 {
@@ -178,14 +198,14 @@ fn of_preab(
 }
 
 fn of_refab(
-    table: &[u8; 294],
+    table: &[u8; 147],
     steps: &[u64; 21],
     last: &[u64; SLOTS],
     opening: Opening,
     second: Kind,
     spot: usize,
 ) -> u64
-    requires { ⌜ Ready (now table) (now steps) spot ⌝ }
+    requires { ⌜ Ready (now table) (now steps) opening spot ⌝ }
     requires { ⌜ second ≡ Refab ⌝ }
     ensures { λ r. ⌜ r ≡ rankAsk (now (steps .entry)) (now (last .entry)) opening second spot ⌝ }
 {
@@ -195,14 +215,14 @@ fn of_refab(
 }
 
 fn of_refpb(
-    table: &[u8; 294],
+    table: &[u8; 147],
     steps: &[u64; 21],
     last: &[u64; SLOTS],
     opening: Opening,
     second: Kind,
     spot: usize,
 ) -> u64
-    requires { ⌜ Ready (now table) (now steps) spot ⌝ }
+    requires { ⌜ Ready (now table) (now steps) opening spot ⌝ }
     requires { ⌜ second ≡ Refpb ⌝ }
     ensures { λ r. ⌜ r ≡ rankAsk (now (steps .entry)) (now (last .entry)) opening second spot ⌝ }
 {
@@ -212,14 +232,14 @@ fn of_refpb(
 }
 
 pub fn of_rank(
-    table: &[u8; 294],
+    table: &[u8; 147],
     steps: &[u64; 21],
     last: &[u64; SLOTS],
     opening: Opening,
     second: Kind,
     spot: usize,
 ) -> u64
-    requires { ⌜ Ready (now table) (now steps) spot ⌝ }
+    requires { ⌜ Ready (now table) (now steps) opening spot ⌝ }
     ensures { λ r. ⌜ r ≡ rankAsk (now (steps .entry)) (now (last .entry)) opening second spot ⌝ }
 {
     match second {

@@ -2,7 +2,7 @@
 // latest ask, the lowest gap first, is a maximum.
 ghost use mathlib.Core.Path.{_≡_};
 ghost use mathlib.Core.Bool.{cond};
-ghost use Prim.Native.Nat.{ℕ, _+_, _-_, _*_, _%_, _<_, max};
+ghost use Prim.Native.Nat.{_+_, _-_, _*_, _%_, _<_};
 ghost use lib.Dec.{eqb};
 ghost use lib.ListN.{getD};
 ghost use Rattle.timing.specs.declared.kinds.CommandKind.the-variants.{Act};
@@ -109,7 +109,7 @@ pub struct Earliest {
 
 // It takes numbers where it can: what goes by value is copied at every call, and a struct is read where it was just written.
 pub fn earliest_of(
-    table: &[u8; 294],
+    table: &[u8; 147],
     steps: &[u64; 21],
     last: &[u64; SLOTS],
     opening: Opening,
@@ -117,7 +117,7 @@ pub fn earliest_of(
     spot: usize,
     known: u64,
 ) -> Earliest
-    requires { ⌜ Ready (now table) (now steps) spot ⌝ }
+    requires { ⌜ Ready (now table) (now steps) opening spot ⌝ }
     ensures { λ r. ⌜ askIn r ≡ unpacked (lentAsk (now (steps .entry)) (now (last .entry)) opening second spot known) ⌝ }
 {
     let largest = larger(known, of_rank(table, steps, last, opening, second, spot));

@@ -69,7 +69,7 @@ fn far_kept(last: &[u64; SLOTS], row: usize, own: usize) -> u64
     larger(larger(next, second), third)
 }
 
-// The other bank of a bank's group.
+// The other bank of a bank's pair.
 fn mate_of(bank: usize) -> usize
     requires { ⌜ bank < 16 ⌝ }
     ensures { λ r. ⌜ r ≡ mateOf bank ⌝ }
@@ -92,17 +92,18 @@ pub fn near_ask(
     bank: usize,
     own: u64,
     mate: u64,
+    beside: u64,
     others: u64,
 ) -> u64
     requires { ⌜ (row + 16 ≤ slots) × (bank < 16) ⌝ }
-    requires { ⌜ (own < 2097152) × (mate < 2097152) × (others < 2097152) ⌝ }
-    ensures { λ r. ⌜ r ≡ nearAsk (now (last .entry)) row bank own mate others ⌝ }
+    requires { ⌜ (own < 2097152) × (mate < 2097152) × (beside < 2097152) × (others < 2097152) ⌝ }
+    ensures { λ r. ⌜ r ≡ nearAsk (now (last .entry)) row bank own mate beside others ⌝ }
 {
     let here = ask_of(kept_at(last, row + bank), own);
     let near = ask_of(kept_at(last, row + mate_of(bank)), mate);
-    let beside = pair_kept(last, row, pair_beside(bank));
-    let newest = larger(far_kept(last, row, bank / 4), beside);
-    larger(here, larger(near, ask_of(newest, others)))
+    let next = ask_of(pair_kept(last, row, pair_beside(bank)), beside);
+    let far = ask_of(far_kept(last, row, bank / 4), others);
+    larger(here, larger(near, larger(next, far)))
 }
 
 // A row whole where either kind names no bank: all banks are equally near.

@@ -30,7 +30,7 @@ only-in : (m : ℕ) → m ≢ 0 → List·Memᴰ m (only m)
 only-in zero above = absurd (above refl)
 only-in (suc k) above = List·Memᴰ·head refl
 
-module _ (st : Standing) (c : Command) (known : st .settings .opening .mode < 2) where
+module _ (st : Standing) (c : Command) (known : st .settings .opening .mode < 3) where
   -- the number of the rule between a survivor and the command
   abbrev pub pairGap : Stamped → ℕ
   pairGap x = tableGap (st .settings .opening) (classOf (st .settings .opening) (x .command) c) (x .command .kind) (c .kind)

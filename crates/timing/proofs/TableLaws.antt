@@ -4,16 +4,16 @@ use mathlib.Core.Logic.{⊎-elim}
 use mathlib.Core.Bool.{Bool, true, false, cond, _&&_, _||_}
 use mathlib.Core.List.{List, [], _∷_, List·Memᴰ, List·Memᴰ·cases-cons, List·Memᴰ·not-nil}
 use Prim.Native.Nat.{ℕ, zero, suc, _+_, _-_, _*_, _/_, _%_, _<_}
-use native.Mathlib.Nat.{add-zero, zero-add, add-suc, suc-add, le-of-suc-le-suc, not-suc-le-zero}
+use native.Mathlib.Nat.{not-suc-le-zero}
 use native.Mathlib.Omega.{arith}
 use lib.Dec.{T, eqb, eqb→eq, ltb, ltb→lt, lit<}
-use lib.ListN.{length, getD}
+use lib.ListN.{getD}
 use borrow.Author.Tests.{lt-ltb, ltb-true, ltb-false}
 use Rattle.timing.specs.declared.kinds.CommandKind.{CommandKind}
 use Rattle.timing.specs.declared.rules.Opening.{Opening}
 use Rattle.timing.specs.Kinds.{codeOf, allBanks}
-use Rattle.timing.specs.Rules.{classFor, rules, matching, kindAt, ruleGap, firstOr0, tableGap, matches, Rule, covers, modeCount}
-use Rattle.timing.specs.Table.{gapTable, matchingAt, inMode, tablePlace, alone, alonePlaces, agrees}
+use Rattle.timing.specs.Rules.{classFor, rules, matching, ruleGap, firstOr0, tableGap, matches, Rule, covers, modeCount}
+use Rattle.timing.specs.Table.{ungrouped, grouped, layerOf, layerPlace, tableLength, matchingAt, entryAt, inMode, alone, agreesBelow, agrees}
 use Rattle.timing.proofs.Truth.{and-left, and-right}
 use Rattle.timing.proofs.KindLaws.{code-low, code-high, kind-at-code}
 
@@ -32,15 +32,17 @@ first-only : (n : ℕ) → firstOr0 (only n) ≡ n
 first-only zero = refl
 first-only (suc n) = refl
 
-alone-at : (t : List ℕ) (i : ℕ) → T (alonePlaces i t) → (k : ℕ) → k < length t → T (alone (getD t k 0) (matchingAt (i + k)))
-unfolding alonePlaces
-alone-at [] i h k l = absurd (not-suc-le-zero l)
-alone-at (n ∷ ns) i h zero l = subst (λ (m : ℕ). T (alone n (matchingAt m))) (sym (add-zero i)) (and-left (alone n (matchingAt i)) (alonePlaces (suc i) ns) h)
-alone-at (n ∷ ns) i h (suc k) l =
-    subst (λ (m : ℕ). T (alone (getD ns k 0) (matchingAt m))) (suc-add i k ∙ sym (add-suc i k))
-    (alone-at ns (suc i) (and-right (alone n (matchingAt i)) (alonePlaces (suc i) ns) h) k (le-of-suc-le-suc l))
+alone-at : (n k : ℕ) → T (agreesBelow n) → k < n → T (alone (entryAt k) (matchingAt k))
+unfolding agreesBelow
+alone-at zero k t l = absurd (not-suc-le-zero l)
+alone-at (suc n) k t l =
+    go (ltb k n) refl (alone-at n k (and-right (alone (entryAt n) (matchingAt n)) (agreesBelow n) t)) (and-left (alone (entryAt n) (matchingAt n)) (agreesBelow n) t)
+  where
+    go : (y : Bool) → ltb k n ≡ y → (k < n → T (alone (entryAt k) (matchingAt k))) → T (alone (entryAt n) (matchingAt n)) → T (alone (entryAt k) (matchingAt k))
+    go true e below here = below (ltb-true k n e)
+    go false e below here = let same : k ≡ n = omega (arith, ltb-false k n e) in rw same here
 
-module _ (m class a b : ℕ) (hm : m < 2) (hc : class < 3) (ha : a < 7) (hb : b < 7) where
+module _ (m class a b : ℕ) (hm : m < 3) (hc : class < 3) (ha : a < 7) (hb : b < 7) where
   abbrev place : ℕ
   place = ((m * 3 + class) * 7 + a) * 7 + b
 
@@ -56,8 +58,11 @@ module _ (m class a b : ℕ) (hm : m < 2) (hc : class < 3) (ha : a < 7) (hb : b 
   place-second : place % 7 ≡ b
   place-second = omega arith
 
-  place-low : place < 294
+  place-low : place < 441
   place-low = omega arith
+
+  place-in : place % 147 ≡ (class * 7 + a) * 7 + b
+  place-in = omega arith
 
 code-place : (k : CommandKind) → codeOf k - 1 < 7
 code-place k = omega (arith, code-low k, code-high k)
@@ -68,40 +73,30 @@ unfolding matching
 mode-only o class a b [] = refl
 mode-only o class a b (r ∷ rs) = ap (λ (ns : List ℕ). cond (matches o class a b r) (r .number ∷ ns) ns) (mode-only o class a b rs)
 
-decoded : (p m class : ℕ) (a b : CommandKind) → 0 + p ≡ p → p / 147 ≡ m → p / 49 % 3 ≡ class → kindAt (p / 7 % 7) ≡ a → kindAt (p % 7) ≡ b
-    → matchingAt (0 + p) ≡ matching (inMode m) class a b rules
-decoded p m class a b e em ec ea eb = rw (e, em, ec, ea, eb)
-
--- one test, computed over all 294 entries
-pub table-agrees : T (agrees gapTable)
-unfolding rules covers matching gapTable alonePlaces agrees
+-- one test, computed over all 441 entries
+pub table-agrees : T agrees
+unfolding rules covers matching ungrouped grouped agreesBelow agrees
 table-agrees = tt
 
-module _ (o : Opening) (class : ℕ) (a b : CommandKind) (hm : o .mode < 2) (hc : class < 3) where
+module _ (o : Opening) (class : ℕ) (a b : CommandKind) (hm : o .mode < 3) (hc : class < 3) where
   -- the rules that hold at an entry are the entry's alone
-  entry-alone : matching o class a b rules ≡ only (getD gapTable (tablePlace o class a b) 0)
+  entry-alone : matching o class a b rules ≡ only (getD (layerOf o) (layerPlace class a b) 0)
   unfolding agrees
   entry-alone =
-      let m = o .mode in
       let x = codeOf a - 1 in
       let y = codeOf b - 1 in
-      let p = tablePlace o class a b in
       let hx = code-place a in
       let hy = code-place b in
-      let parts = table-agrees in
-      let size : length gapTable ≡ 294 = eqb→eq (length gapTable) 294 (and-left (eqb (length gapTable) 294) (alonePlaces 0 gapTable) parts) in
-      let low : p < length gapTable = subst (λ (n : ℕ). p < n) (sym size) (place-low m class x y hm hc hx hy) in
-      let found =
-      alone-only (getD gapTable p 0) (matchingAt (0 + p)) (alone-at gapTable 0 (and-right (eqb (length gapTable) 294) (alonePlaces 0 gapTable) parts) p low) in
-      sym (mode-only o class a b rules)
-      ∙ sym (decoded p m class a b (zero-add p) (place-mode m class x y hm hc hx hy) (place-class m class x y hm hc hx hy)
-      (ap kindAt (place-first m class x y hm hc hx hy) ∙ kind-at-code a) (ap kindAt (place-second m class x y hm hc hx hy) ∙ kind-at-code b))
-      ∙ found
+      let p = ((o .mode * 3 + class) * 7 + x) * 7 + y in
+      let found = alone-only (entryAt p) (matchingAt p) (alone-at tableLength p table-agrees (place-low (o .mode) class x y hm hc hx hy)) in
+      let here : matching (inMode (o .mode)) class a b rules ≡ only (getD (layerOf o) (layerPlace class a b) 0) =
+      rw (place-mode (o .mode) class x y hm hc hx hy, place-in (o .mode) class x y hm hc hx hy, place-class (o .mode) class x y hm hc hx hy, place-first (o .mode) class x y hm hc hx hy, place-second (o .mode) class x y hm hc hx hy, kind-at-code a, kind-at-code b) at found in
+      sym (mode-only o class a b rules) ∙ here
 
   -- the table's entry is the rule's number
-  pub table-entry : getD gapTable (tablePlace o class a b) 0 ≡ tableGap o class a b
+  pub table-entry : getD (layerOf o) (layerPlace class a b) 0 ≡ tableGap o class a b
   unfolding tableGap ruleGap
-  table-entry = rw (lt-ltb (o .mode) 2 hm, entry-alone) (sym (first-only (getD gapTable (tablePlace o class a b) 0)))
+  table-entry = rw (lt-ltb (o .mode) 3 hm, entry-alone) (sym (first-only (getD (layerOf o) (layerPlace class a b) 0)))
 
   -- at most one rule of the list holds: the one that the table names
   pub one-rule : matching o class a b rules ≡ only (tableGap o class a b)
@@ -145,7 +140,7 @@ module _ (o : Opening) (class : ℕ) (a b : CommandKind) where
 
   pub gap-low : tableGap o class a b < 20
   unfolding tableGap ruleGap
-  gap-low = go (ltb (o .mode) 2)
+  gap-low = go (ltb (o .mode) 3)
     where
       go : (y : Bool) → cond y (firstOr0 (matching o class a b rules)) 0 < 20
       go true = first-low rules all-numbered

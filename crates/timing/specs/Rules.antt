@@ -9,9 +9,9 @@ use Rattle.timing.specs.declared.rules.Opening.{Opening}
 use Rattle.timing.specs.declared.rules.Command.{Command}
 use Rattle.timing.specs.Kinds.{sameKind, allBanks}
 
--- eight groups of two banks, in every mode
+-- four groups of four banks in mode 2, else eight of two
 abbrev pub groupOf : Opening → ℕ → ℕ
-groupOf o bank = bank / 2
+groupOf o bank = cond (eqb (o .mode) 2) (bank / 4) (bank / 2)
 
 -- class 0: both name the same bank; 1: different banks, same group; 2: everything else, and always when either is PREAB or REFAB
 abbrev pub nearness : Opening → ℕ → ℕ → ℕ
@@ -59,13 +59,13 @@ rules =
     rule 3 every (Act to Rd within one 0 ∷ Act to Wr within one 0 ∷ []) ∷
     rule 4 every (Act to Prepb within one 0 ∷ Act to Preab within every ∷ []) ∷
     rule 5 (one 0) (Rd to Rd within every ∷ Wr to Wr within every ∷ []) ∷
-    rule 6 (one 1) (Rd to Rd within two 0 1 ∷ Wr to Wr within two 0 1 ∷ []) ∷
-    rule 7 (one 1) (Rd to Rd within one 2 ∷ Wr to Wr within one 2 ∷ []) ∷
+    rule 6 (two 1 2) (Rd to Rd within two 0 1 ∷ Wr to Wr within two 0 1 ∷ []) ∷
+    rule 7 (two 1 2) (Rd to Rd within one 2 ∷ Wr to Wr within one 2 ∷ []) ∷
     rule 8 every (Rd to Wr within every ∷ []) ∷
     rule 9 every (Rd to Prepb within one 0 ∷ Rd to Preab within every ∷ []) ∷
     rule 10 (one 0) (Wr to Rd within every ∷ []) ∷
-    rule 11 (one 1) (Wr to Rd within two 0 1 ∷ []) ∷
-    rule 12 (one 1) (Wr to Rd within one 2 ∷ []) ∷
+    rule 11 (two 1 2) (Wr to Rd within two 0 1 ∷ []) ∷
+    rule 12 (two 1 2) (Wr to Rd within one 2 ∷ []) ∷
     rule 13 every (Wr to Prepb within one 0 ∷ Wr to Preab within every ∷ []) ∷
     rule 14 every (Prepb to Act within one 0 ∷ Prepb to Refpb within one 0 ∷ []) ∷
     rule 15 every (Preab to Act within every ∷ Preab to Refab within every ∷ []) ∷
@@ -98,13 +98,13 @@ firstOr0 [] = 0
 firstOr0 (n ∷ ns) = n
 
 abbrev pub modeCount : ℕ
-modeCount = 2
+modeCount = 3
 
 -- the number of the rule that holds, 0 where none does
 unfoldable pub ruleGap : Opening → ℕ → CommandKind → CommandKind → ℕ
 ruleGap o class a b = firstOr0 (matching o class a b rules)
 
--- the table's entry: the number of the rule that holds; 0 where none does, and in a mode that document 01 does not know
+-- the table's entry: the number of the rule that holds; 0 where none does, and in a mode that no opening has
 unfoldable pub tableGap : Opening → ℕ → CommandKind → CommandKind → ℕ
 tableGap o class a b = cond (ltb (o .mode) modeCount) (ruleGap o class a b) 0
 

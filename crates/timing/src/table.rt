@@ -1,14 +1,14 @@
-// The rules 1 to 19 as one constant table of 294 gap numbers.
+// The rules 1 to 19 as one constant table of gap numbers, 441 over the modes, of which two share their layer.
 ghost use mathlib.Core.Path.{_≡_};
 ghost use Prim.Native.Nat.{_<_, _-_};
 ghost use Rattle.timing.specs.Kinds.{codeOf};
 ghost use Rattle.timing.specs.Rules.{tableGap};
-ghost use Rattle.timing.specs.Table.{gapTable};
+ghost use Rattle.timing.specs.Table.{layerOf};
 use crate::kinds::CommandKind;
 use crate::rules::Opening;
 
-// Gap numbers over mode, class, first and second kind; 0: none.
-const TABLE: [u8; 294] = [
+// Gap numbers over class, first and second kind; 0: none. Mode 0.
+const UNGROUPED: [u8; 147] = [
     1,
     3,
     3,
@@ -156,6 +156,10 @@ const TABLE: [u8; 294] = [
     0,
     0,
     19,
+];
+
+// Modes 1 and 2.
+const GROUPED: [u8; 147] = [
     1,
     3,
     3,
@@ -305,11 +309,14 @@ const TABLE: [u8; 294] = [
     19,
 ];
 
-// The constant table. A caller that looks up often takes it once: naming a constant array makes it anew each time.
-pub fn table() -> [u8; 294]
-    ensures { λ r. ⌜ r ≡ gapTable ⌝ }
+// The table's layer for an opening. A caller that looks up often takes it once: naming a constant array makes it anew each time.
+pub fn table(opening: Opening) -> [u8; 147]
+    ensures { λ r. ⌜ r ≡ layerOf opening ⌝ }
 {
-    TABLE
+    if opening.mode == 0 {
+        return UNGROUPED;
+    }
+    GROUPED
 }
 
 fn wide(x: u8) -> usize
@@ -325,23 +332,22 @@ pub fn place_of(kind: CommandKind) -> usize
     kind.number() as usize - 1
 }
 
-// The gap number at an entry of the table; 0 in a mode that no opening has.
+// The gap number at an entry of the opening's layer; 0 in a mode that no opening has.
 pub fn gap_number(
-    table: &[u8; 294],
+    table: &[u8; 147],
     opening: Opening,
     class: usize,
     first: CommandKind,
     second: CommandKind,
 ) -> usize
-    requires { ⌜ now table ≡ gapTable ⌝ }
+    requires { ⌜ now table ≡ layerOf opening ⌝ }
     requires { ⌜ class < 3 ⌝ }
     ensures { λ r. ⌜ r ≡ tableGap opening class first second ⌝ }
 {
-    let mode = opening.mode as usize;
-    if 2 <= mode {
+    if 3 <= opening.mode {
         return 0;
     }
     let row = place_of(first);
     let column = place_of(second);
-    wide(table[((mode * 3 + class) * 7 + row) * 7 + column])
+    wide(table[(class * 7 + row) * 7 + column])
 }

@@ -6,7 +6,7 @@ use rossinhiu::checker::{self, Console, Said};
 use rossinhiu::ffi::{self, Numbers, Part, Session};
 use rossinhiu_model::burst_calls::{compare_burst_calls, Checker};
 use rossinhiu_model::console as model_console;
-use rossinhiu_model::generate::{script, Rng, MOODS, SETTINGS_A};
+use rossinhiu_model::generate::{in_mode, script, Rng, MOODS, SETTINGS_A};
 use rossinhiu_model::listing;
 use rossinhiu_model::model::{
     Answer, BurstAnswer, Command, State, Status, LAST_CYCLE, MOST_RECORDS, RECORD,
@@ -96,7 +96,7 @@ impl Pair {
         let mode = if bad {
             self.rng.pick(&wild)
         } else {
-            self.rng.pick(&[0, 1])
+            self.rng.pick(&[0, 2, 2])
         };
         let (given, client, gaps) = ((ratio, ranks, mode), self.rng.draw() as u32, self.gaps());
         let came = checker::open(&mut self.session, &mut self.lent, given, client, &gaps);
@@ -169,6 +169,10 @@ impl Pair {
         };
         let due = self.model.offer(&mut self.expected, command);
         self.saw("offer", came.number, came.gap);
+        if came.gap != 0 {
+            let mode = self.session.terms.opening.mode.into();
+            *self.seen.entry(("mode", mode, came.gap)).or_default() += 1;
+        }
         self.hold("offer", told(came), (due.number, due.cycle, due.gap));
     }
 
@@ -221,13 +225,21 @@ impl Pair {
     fn restore(&mut self) {
         let end = RECORD * self.model.records.len();
         let mut bytes = self.lent[..end.min(self.lent.len())].to_vec();
-        match self.rng.below(4) {
+        match self.rng.below(6) {
             0 => bytes.truncate(self.rng.below(bytes.len() as u64 + 1) as usize),
             1 if !bytes.is_empty() => {
                 let at = self.rng.below(bytes.len() as u64) as usize;
                 bytes[at] ^= 1 << self.rng.below(8);
             }
             2 => bytes.extend((0..self.rng.below(64)).map(|n| n as u8)),
+            // The session of another mode, which the journal names: mode 1 comes from old journals alone.
+            3 | 4 => {
+                let mode = self.rng.pick(&[0, 1, 1, 1, 2]);
+                if let Some((at, good)) = in_mode(&bytes, mode) {
+                    bytes[at] = mode;
+                    bytes.truncate(good * RECORD);
+                }
+            }
             _ => {}
         }
         let (session, number, record) = checker::restore(&bytes);
@@ -356,6 +368,20 @@ fn every_answer_came(seen: &Seen) {
             assert!(found, "{call} never gave {number}");
         }
     }
+    // The gaps by which the modes differ, each in its modes and in no other.
+    for (gap, modes) in [
+        (5, 0..1),
+        (6, 1..3),
+        (7, 1..3),
+        (10, 0..1),
+        (11, 1..3),
+        (12, 1..3),
+    ] {
+        for mode in 0..3 {
+            let came = seen.contains_key(&("mode", mode, gap));
+            assert_eq!(came, modes.contains(&mode), "gap {gap} in mode {mode}");
+        }
+    }
     for gap in 1..=20 {
         assert!(
             seen.contains_key(&("offer", 7, gap)),
@@ -429,6 +455,16 @@ impl Checker for Library {
         checker::take_back(&mut self.session, &mut self.journal)
     }
 
+    fn poke(&mut self, at: usize, byte: u8) {
+        self.journal[at] = byte;
+    }
+
+    fn restore(&mut self, bytes: usize) -> (u64, usize) {
+        let (session, number, record) = checker::restore(&self.journal[..bytes]);
+        self.session = session;
+        (number, record as usize)
+    }
+
     fn burst(&mut self, list: &[Command]) -> BurstAnswer {
         let commands: Vec<ffi::Command> = list
             .iter()
@@ -500,7 +536,7 @@ fn the_state_field_by_field() {
     let (mut session, mut state) = (checker::fresh(), twin::fresh());
     assert_eq!(session, state);
     let gaps = std::array::from_fn(|i| 3 * i as u16 + 1);
-    let given = (2, 2, 1);
+    let given = (2, 2, 2);
     for client in [0xABCD_EF01, 0x1234_5678] {
         assert_eq!(
             checker::open(&mut session, &mut lent, given, client, &gaps),
@@ -562,7 +598,7 @@ fn any_state_value() {
             1 => checker::take_back(&mut session, &mut lent) == 0,
             2 => checker::offer_all(&mut session, &mut lent, &list).0 > 0,
             3 => checker::offer_pieces(&mut session, &mut lent, &bytes).0 > 0,
-            _ => checker::open(&mut session, &mut lent, (1, 1, 1), 9, &SETTINGS_A) == 0,
+            _ => checker::open(&mut session, &mut lent, (1, 1, 2), 9, &SETTINGS_A) == 0,
         };
         if !is_written {
             assert_eq!(session, before);
@@ -674,7 +710,7 @@ fn a_full_journal() {
     let mut bytes = vec![0; (MOST_RECORDS + 1) * RECORD];
     let mut state = twin::fresh();
     assert_eq!(
-        twin::open(&mut state, &mut bytes, (4, 2, 1), 7, &SETTINGS_A),
+        twin::open(&mut state, &mut bytes, (4, 2, 2), 7, &SETTINGS_A),
         0
     );
     for n in 1..MOST_RECORDS as u64 {
@@ -728,7 +764,7 @@ fn on_64_kib_of_stack() {
             s.progress.records
         },
         |_, _, _| checker::gaps(625, &[26_250; 20]).number,
-        |s, lent, _| checker::open(s, lent, (4, 2, 1), 7, &SETTINGS_A),
+        |s, lent, _| checker::open(s, lent, (4, 2, 2), 7, &SETTINGS_A),
         |s, lent, _| checker::offer(s, lent, 1, 0, 3, 100).number,
         two_structs,
         two_pieces,
@@ -747,7 +783,7 @@ fn on_64_kib_of_stack() {
             u64::from(!ended)
         },
         |s, lent, _| {
-            let line = format!("open 4 2 1 7{}", " 65535".repeat(20));
+            let line = format!("open 4 2 2 7{}", " 65535".repeat(20));
             let mut console = Console::new(lent.len());
             let said = console.line(s, lent, line.as_bytes(), true);
             u64::from(said.text != b"open 0")
@@ -762,7 +798,7 @@ fn on_64_kib_of_stack() {
 fn with_stack(size: usize, call: impl Fn(&mut Session, &mut [u8], &mut [u8]) -> u64 + Sync) -> u64 {
     let mut session = Box::new(checker::fresh());
     let (mut lent, mut out) = (vec![0; 8 * RECORD], vec![0; 8 * RECORD]);
-    checker::open(&mut session, &mut lent, (4, 2, 1), 7, &SETTINGS_A);
+    checker::open(&mut session, &mut lent, (4, 2, 2), 7, &SETTINGS_A);
     checker::offer(&mut session, &mut lent, 1, 0, 2, 90);
     checker::offer(&mut session, &mut lent, 1, 0, 1, 95);
     thread::scope(|scope| {

@@ -133,7 +133,7 @@ fn first_trace() -> String {
 }
 
 /// Another client, with other timings.
-const SECOND: &str = "open 4 2 1 9 60 8 21 42 8 8 4 20 8 24 26 18 34 18 21 4 280 140 90 32
+const SECOND: &str = "open 4 2 2 9 60 8 21 42 8 8 4 20 8 24 26 18 34 18 21 4 280 140 90 32
 offer ACT 0 3 100
 offer ACT 1 16 101
 offer RD 1 3 101
@@ -607,7 +607,7 @@ int main(void) {
     uint64_t form;
     while (scanf("%" SCNu64, &form) == 1) {
         if (form == 2) {
-            session = rossinhiu_open(session, journal, sizeof journal, 4, 2, 1, 7, gaps).session;
+            session = rossinhiu_open(session, journal, sizeof journal, 4, 2, 2, 7, gaps).session;
         } else if (form == 3) {
             for (int i = 0; i < ROOM; i++)
                 printf("%02x", journal[i]);
@@ -640,7 +640,7 @@ fn round_by_model(rng: &mut Rng, lines: &mut String, due: &mut String) {
     let mut model = Model::new(vec![0; 150 * RECORD + 5]);
     for turn in 0..12 {
         if turn == 1 {
-            model.open((4, 2, 1), 7, SETTINGS_A);
+            model.open((4, 2, 2), 7, SETTINGS_A);
             *lines += "2\n";
         }
         let form = rng.below(2);

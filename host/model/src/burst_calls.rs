@@ -2,10 +2,10 @@
 //! what holds another program's calls against the model.
 
 use crate::console::LONGEST_LINE;
-use crate::generate::{Habits, Rng, NO_KINDS, SETTINGS_A, TOO_LARGE};
+use crate::generate::{in_mode, Habits, Rng, LIVE_MODES, NO_KINDS, SETTINGS_A, TOO_LARGE};
 use crate::model::{
     bytes_of, Answer, BurstAnswer, Command, Record, State, Status, ACT, LAST_CYCLE, NAMES, PREAB,
-    RECORD, REFAB,
+    RD, RECORD, REFAB, WR,
 };
 use crate::sheet_calls::NO_NUMBERS;
 use std::fmt::{Debug, Display};
@@ -136,7 +136,7 @@ impl<'a> Drawing<'a> {
     fn beyond(&self, rng: &mut Rng, near: &[u64], right: u64) -> u64 {
         let high = rng.pick(&[1 << 8, 1 << 16, 1 << 32, 1 << 56, u64::MAX << 8]);
         let any = rng.pick(near);
-        let chosen = rng.pick(&[any, right + high]);
+        let chosen = rng.pick(&[any, right + high, right + high]);
         if chosen <= self.widest {
             chosen
         } else {
@@ -369,6 +369,10 @@ pub trait Checker {
     fn ask(&self, kind: u64, rank: u64, bank: u64) -> Answer;
     fn status(&self) -> Status;
     fn journal(&self) -> &[u8];
+    /// Writes one byte of the journal. The state does not see it before a restore.
+    fn poke(&mut self, at: usize, byte: u8);
+    /// The state becomes what a restore of so many bytes of the journal gives: the number, and the record number of an 11.
+    fn restore(&mut self, bytes: usize) -> (u64, usize);
 }
 
 /// The model with its journal.
@@ -409,6 +413,14 @@ impl Checker for Model {
     fn journal(&self) -> &[u8] {
         &self.journal
     }
+    fn poke(&mut self, at: usize, byte: u8) {
+        self.journal[at] = byte;
+    }
+    fn restore(&mut self, bytes: usize) -> (u64, usize) {
+        let (number, at, state) = State::restore(&self.journal[..bytes]);
+        self.state = state;
+        (number, at)
+    }
 }
 
 /// Gaps at which lists soon meet one another, and gaps that let everything stand.
@@ -422,13 +434,19 @@ fn any_gaps(rng: &mut Rng) -> [u16; 20] {
     }
 }
 
+/// The commands that were handed over in lists, and those of them in sessions of each mode.
+#[derive(Clone, Copy, Debug, Default)]
+struct Handed {
+    all: u64,
+    in_mode: [u64; 3],
+}
+
 /// The model and another program, of the same calls.
 struct Pair<C> {
     model: Model,
     other: C,
     widest: u64,
-    /// The commands that were handed over in lists.
-    handed: u64,
+    handed: Handed,
 }
 
 fn same<T: PartialEq + Debug>(call: &str, expected: T, got: T) -> Result<(), String> {
@@ -442,8 +460,9 @@ fn same<T: PartialEq + Debug>(call: &str, expected: T, got: T) -> Result<(), Str
 
 impl<C: Checker> Pair<C> {
     fn turn(&mut self, rng: &mut Rng) -> Result<(), String> {
-        match rng.below(20) {
+        match rng.below(21) {
             0 => self.open(rng)?,
+            20 => self.change_mode(rng.pick(&[0, 1, 1, 2]))?,
             1 | 2 => {
                 for _ in 0..rng.pick(&[1, 1, 2, 5, 63, 64, 65, 70]) {
                     same("back", self.model.back(), self.other.back())?;
@@ -462,17 +481,53 @@ impl<C: Checker> Pair<C> {
         self.same_state(rng)
     }
 
+    /// Before some openings one in mode 1, which is refused, and behind some a session in it all the same.
     fn open(&mut self, rng: &mut Rng) -> Result<(), String> {
-        let settings = (rng.pick(&[1, 2, 4]), rng.between(1, 2), rng.below(2));
+        if rng.chance(10) {
+            self.open_in(rng, 1)?;
+        }
+        let mode = rng.pick(&LIVE_MODES);
+        self.open_in(rng, mode)?;
+        if rng.chance(35) {
+            if rng.chance(50) {
+                self.burst(rng)?;
+            }
+            self.change_mode(1)?;
+        }
+        Ok(())
+    }
+
+    fn open_in(&mut self, rng: &mut Rng, mode: u64) -> Result<(), String> {
+        let settings = (rng.pick(&[1, 2, 4]), rng.between(1, 2), mode);
         let (client, gaps) = (rng.draw() as u32, any_gaps(rng));
         let expected = self.model.open(settings, client, gaps);
         let about = format!("open {settings:?} {client} {gaps:?}");
         same(&about, expected, self.other.open(settings, client, gaps))
     }
 
+    /// The session in force goes on in another mode: that is written into its opening, and what is good then is restored.
+    fn change_mode(&mut self, mode: u8) -> Result<(), String> {
+        let front = &self.model.journal[..RECORD * self.model.state.records.len()];
+        let Some((at, records)) = in_mode(front, mode) else {
+            return Ok(());
+        };
+        self.model.poke(at, mode);
+        self.other.poke(at, mode);
+        let bytes = RECORD * records;
+        let about = format!("poke {at} {mode}, restore {bytes}");
+        same(&about, self.model.restore(bytes), self.other.restore(bytes))
+    }
+
+    fn hand(&mut self, commands: usize) {
+        self.handed.all += commands as u64;
+        if let Some((_, opening)) = self.model.state.session() {
+            self.handed.in_mode[opening.mode as usize] += commands as u64;
+        }
+    }
+
     fn burst(&mut self, rng: &mut Rng) -> Result<(), String> {
         let list = any_burst(rng, &self.model.state, 200, self.widest);
-        self.handed += list.len() as u64;
+        self.hand(list.len());
         let words = list.iter().map(|c| words_of(c, c.kind));
         let about = format!("burst{}", words.collect::<String>());
         same(&about, self.model.burst(&list), self.other.burst(&list))
@@ -485,18 +540,28 @@ impl<C: Checker> Pair<C> {
             // The last command is loose bytes then, and not to be looked at.
             bytes.truncate(bytes.len().saturating_sub(rng.between(1, 63) as usize));
         }
-        self.handed += (bytes.len() / RECORD) as u64;
+        self.hand(bytes.len() / RECORD);
         let about = format!("burst of the {} bytes {bytes:?}", bytes.len());
         let expected = self.model.burst_bytes(&bytes);
         same(&about, expected, self.other.burst_bytes(&bytes))
+    }
+
+    /// A place to ask for: any, or near the last survivor's, within its group or beside it.
+    fn place(&self, rng: &mut Rng) -> (u64, u64, u64) {
+        let (kind, rank) = (rng.between(1, 7), rng.below(2));
+        let bank = any_bank(rng, kind, 16);
+        let survivors = self.model.state.survivors();
+        match survivors.last().filter(|_| rng.chance(50)) {
+            Some(last) => (rng.pick(&[RD, WR]), last.rank, last.bank ^ rng.below(6)),
+            None => (kind, rank, bank),
+        }
     }
 
     /// Status, some questions and every byte of the journal.
     fn same_state(&self, rng: &mut Rng) -> Result<(), String> {
         same("status", self.model.status(), self.other.status())?;
         for _ in 0..5 {
-            let (kind, rank) = (rng.between(1, 7), rng.below(2));
-            let bank = any_bank(rng, kind, 16);
+            let (kind, rank, bank) = self.place(rng);
             let expected = self.model.ask(kind, rank, bank);
             let about = format!("ask {kind} {rank} {bank}");
             same(&about, expected, self.other.ask(kind, rank, bank))?;
@@ -508,9 +573,36 @@ impl<C: Checker> Pair<C> {
     }
 }
 
-/// For tests of single calls in volume: in each round a fresh program over these bytes, then bursts in both forms, offers, take-backs and openings, and
-/// each answer, the state's answers and every byte of the journal held against the model. No kind, rank or bank in a list is above `widest`, at least
-/// 255; pieces of bytes stay below 256. Gives how many commands were handed over in lists, or the first difference.
+/// One round: a fresh program and the model over a journal of its own.
+fn play_round<C: Checker>(
+    mut rng: Rng,
+    widest: u64,
+    mut fresh: impl FnMut(Vec<u8>) -> C,
+) -> Result<Handed, String> {
+    let (few, many) = (rng.between(1, 12), rng.between(60, 400));
+    let room = RECORD as u64 * rng.pick(&[few, many, many]) + rng.pick(&[0, 0, 1, 63]);
+    // What is not written is not zeros, so that every byte that changes shows.
+    let journal: Vec<u8> = (0..room).map(|_| rng.draw() as u8).collect();
+    let mut pair = Pair {
+        model: Model::new(journal.clone()),
+        other: fresh(journal),
+        widest,
+        handed: Handed::default(),
+    };
+    for turn in 0..16 {
+        let played = match turn {
+            0 => pair.burst(&mut rng),
+            1 => pair.open(&mut rng),
+            _ => pair.turn(&mut rng),
+        };
+        played.map_err(|fault| format!("turn {turn}: {fault}"))?;
+    }
+    Ok(pair.handed)
+}
+
+/// For tests of single calls in volume: in each round a fresh program over these bytes, then bursts in both forms, offers, take-backs, openings and
+/// restores in every mode, and each answer, the state's answers and every byte of the journal held against the model. No kind, rank or bank in a list is
+/// above `widest`, at least 255; pieces of bytes stay below 256. Gives how many commands were handed over in lists, or the first difference.
 pub fn compare_burst_calls<C: Checker>(
     seed: u64,
     rounds: u64,
@@ -519,31 +611,15 @@ pub fn compare_burst_calls<C: Checker>(
 ) -> Result<u64, String> {
     let mut handed = 0;
     for round in 0..rounds {
-        let mut rng = Rng::new(seed.wrapping_add(round));
-        let (few, many) = (rng.between(1, 12), rng.between(60, 400));
-        let room = RECORD as u64 * rng.pick(&[few, many, many]) + rng.pick(&[0, 0, 1, 63]);
-        // What is not written is not zeros, so that every byte that changes shows.
-        let journal: Vec<u8> = (0..room).map(|_| rng.draw() as u8).collect();
-        let mut pair = Pair {
-            model: Model::new(journal.clone()),
-            other: fresh(journal),
-            widest,
-            handed: 0,
-        };
-        for turn in 0..16 {
-            let played = match turn {
-                0 => pair.burst(&mut rng),
-                1 => pair.open(&mut rng),
-                _ => pair.turn(&mut rng),
-            };
-            played.map_err(|fault| format!("seed {seed}, round {round}, turn {turn}: {fault}"))?;
-        }
-        handed += pair.handed;
+        let rng = Rng::new(seed.wrapping_add(round));
+        let played = play_round(rng, widest, &mut fresh);
+        let played = played.map_err(|fault| format!("seed {seed}, round {round}, {fault}"));
+        handed += played?.all;
     }
     Ok(handed)
 }
 
-/// Bursts that are wrong in one way, so that calls and scripts can be shown to tell.
+/// Bursts and modes that are wrong in one way, so that calls and scripts can be shown to tell.
 #[cfg(test)]
 pub mod wrong {
     use super::*;
@@ -800,11 +876,123 @@ pub mod wrong {
         }),
     ];
 
+    /// An opening by the model.
+    pub type Open = fn(&mut Model, (u64, u64, u64), u32, [u16; 20]) -> u64;
+    /// What a restore of these bytes gives.
+    pub type Restore = fn(&[u8]) -> (u64, usize, State);
+
+    fn open(model: &mut Model, settings: (u64, u64, u64), client: u32, gaps: [u16; 20]) -> u64 {
+        model.open(settings, client, gaps)
+    }
+
+    /// The last so many records, as if an opening said another mode.
+    fn judge(state: &mut State, records: usize, mode: fn(u64) -> u64) {
+        for record in state.records.iter_mut().rev().take(records) {
+            if let Record::Opening(o) = record {
+                o.mode = mode(o.mode);
+            }
+        }
+    }
+
+    fn restored(bytes: &[u8], mode: fn(u64) -> u64) -> (u64, usize, State) {
+        let (number, at, mut state) = State::restore(bytes);
+        judge(&mut state, usize::MAX, mode);
+        (number, at, state)
+    }
+
+    fn two_as_one(mode: u64) -> u64 {
+        mode.min(1)
+    }
+
+    fn two_as_none(mode: u64) -> u64 {
+        mode % 2
+    }
+
+    /// Those that refuse, or don't refuse, a mode.
+    const REFUSED: [(&str, (Open, Restore)); 3] = [
+        (
+            "mode 1 opened",
+            (
+                |model, (ratio, ranks, mode), client, gaps| {
+                    let mode = if mode == 1 { 2 } else { mode };
+                    model.open((ratio, ranks, mode), client, gaps)
+                },
+                State::restore,
+            ),
+        ),
+        (
+            "mode 2 not opened",
+            (
+                |model, settings, client, gaps| match settings.2 {
+                    2 => 10,
+                    _ => model.open(settings, client, gaps),
+                },
+                State::restore,
+            ),
+        ),
+        (
+            "mode 1 not restored",
+            (open, |bytes| {
+                let (number, at, state) = State::restore(bytes);
+                let is_in_1 = |r: &Record| matches!(r, Record::Opening(o) if o.mode == 1);
+                match state.records.iter().position(is_in_1) {
+                    Some(at) => (11, at, State::fresh()),
+                    None => (number, at, state),
+                }
+            }),
+        ),
+    ];
+
+    /// Those that go by another mode's rules.
+    const JUDGED: [(&str, (Open, Restore)); 5] = [
+        (
+            "groups of two in mode 2",
+            (
+                |model, settings, client, gaps| {
+                    let answer = model.open(settings, client, gaps);
+                    judge(&mut model.state, 1, two_as_one);
+                    answer
+                },
+                |bytes| restored(bytes, two_as_one),
+            ),
+        ),
+        (
+            "mode 2 by mode 0's rules",
+            (
+                |model, settings, client, gaps| {
+                    let answer = model.open(settings, client, gaps);
+                    judge(&mut model.state, 1, two_as_none);
+                    answer
+                },
+                |bytes| restored(bytes, two_as_none),
+            ),
+        ),
+        (
+            "groups of four in mode 1",
+            (open, |bytes| restored(bytes, |mode| 2 * mode.min(1))),
+        ),
+        (
+            "mode 1 by mode 0's rules",
+            (open, |bytes| restored(bytes, |mode| mode & 2)),
+        ),
+        (
+            "mode 0 behind a restore",
+            (open, |bytes| restored(bytes, |_| 0)),
+        ),
+    ];
+
+    /// Each is right but for what its name says.
+    pub fn modes() -> Vec<(&'static str, (Open, Restore))> {
+        [REFUSED.as_slice(), &JUDGED].concat()
+    }
+
     /// A program with one of them, or the right ones.
     pub struct Program {
         pub model: Model,
         pub burst: Burst,
         pub cut: Cut,
+        pub open: Open,
+        pub restore: Restore,
     }
 
     /// Single offers in a row, and not the model's own burst: what was accepted is counted by its records.
@@ -817,10 +1005,11 @@ pub mod wrong {
     }
 
     pub const RIGHT: (Burst, Cut) = (in_a_row, whole);
+    pub const RIGHT_MODES: (Open, Restore) = (open, State::restore);
 
     impl Checker for Program {
         fn open(&mut self, settings: (u64, u64, u64), client: u32, gaps: [u16; 20]) -> u64 {
-            self.model.open(settings, client, gaps)
+            (self.open)(&mut self.model, settings, client, gaps)
         }
         fn offer(&mut self, command: Command) -> Answer {
             self.model.offer(command)
@@ -843,6 +1032,14 @@ pub mod wrong {
         fn journal(&self) -> &[u8] {
             self.model.journal()
         }
+        fn poke(&mut self, at: usize, byte: u8) {
+            self.model.poke(at, byte);
+        }
+        fn restore(&mut self, bytes: usize) -> (u64, usize) {
+            let (number, at, state) = (self.restore)(&self.model.journal[..bytes]);
+            self.model.state = state;
+            (number, at)
+        }
     }
 }
 
@@ -853,15 +1050,22 @@ mod tests {
     use crate::generate::script;
     use std::collections::BTreeMap;
 
-    fn compared(
+    fn compared(seed: u64, rounds: u64, calls: (wrong::Burst, wrong::Cut)) -> Result<u64, String> {
+        compared_with(seed, rounds, calls, wrong::RIGHT_MODES)
+    }
+
+    fn compared_with(
         seed: u64,
         rounds: u64,
         (burst, cut): (wrong::Burst, wrong::Cut),
+        (open, restore): (wrong::Open, wrong::Restore),
     ) -> Result<u64, String> {
         compare_burst_calls(seed, rounds, u64::MAX, |journal| wrong::Program {
             model: Model::new(journal),
             burst,
             cut,
+            open,
+            restore,
         })
     }
 
@@ -891,6 +1095,33 @@ mod tests {
                 );
             }
         }
+    }
+
+    #[test]
+    fn wrong_modes_are_found_wrong() {
+        for (name, modes) in wrong::modes() {
+            for seed in [1, 1_000] {
+                let report = compared_with(seed, 60, wrong::RIGHT, modes).expect_err(name);
+                assert!(report.contains("expected "), "{name}");
+            }
+        }
+    }
+
+    /// Calls that reach little of a mode could not show a fault in it.
+    #[test]
+    fn lists_are_handed_over_in_every_mode() {
+        let (mut in_mode, mut rounds) = ([0; 3], [0; 3]);
+        for seed in 0..150 {
+            let handed = play_round(Rng::new(seed), u64::MAX, Model::new).unwrap();
+            for mode in 0..3 {
+                in_mode[mode] += handed.in_mode[mode];
+                rounds[mode] += u64::from(handed.in_mode[mode] >= 20);
+            }
+        }
+        println!("commands {in_mode:?}, rounds with 20 of them {rounds:?}");
+        let all: u64 = in_mode.iter().sum();
+        assert!(in_mode.iter().all(|n| 4 * n >= all), "{in_mode:?}");
+        assert!(rounds.iter().all(|n| *n >= 50), "{rounds:?}");
     }
 
     /// States of every mood, each with some room behind its records.

@@ -566,4 +566,35 @@ mod tests {
             assert_eq!(told[4], "bytes 00");
         }
     }
+
+    /// Refused live; poked into the opening it is restored, and the session goes on with groups of two.
+    #[test]
+    fn a_session_in_mode_1() {
+        let opening = |mode| crate::generate::opening_a().replacen("4 1 0", mode, 1);
+        let (first, refused) = (opening("1 1 2"), opening("1 1 1"));
+        let mut console = Console::new();
+        for (line, due) in [
+            (refused.as_str(), "open 10"),
+            (&first, "open 0"),
+            ("offer RD 0 0 10", "offer 0 10 0"),
+            ("ask RD 0 3", "ask 0 18 6"),
+            ("ask RD 0 4", "ask 0 16 7"),
+            (&refused, "open 10"),
+            ("poke 3 1", "poke 3 1"),
+            ("ask RD 0 3", "ask 0 18 6"),
+            ("restore 128", "restore 0 0"),
+            ("ask RD 0 1", "ask 0 18 6"),
+            ("ask RD 0 2", "ask 0 16 7"),
+            ("burst RD 0 2 16 RD 0 3 23", "burst 1 7 24 6"),
+            ("offer RD 0 0 21", "offer 7 22 7"),
+            ("back", "back 0"),
+            ("status", "status 0 7 0 1 1 10 4"),
+            (&refused, "open 10"),
+            ("poke 3 3", "poke 3 3"),
+            ("restore 128", "restore 11 0"),
+            ("ask RD 0 2", "ask 1 0 0"),
+        ] {
+            assert_eq!(console.line(line.as_bytes(), true).unwrap(), due, "{line}");
+        }
+    }
 }

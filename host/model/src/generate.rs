@@ -10,6 +10,9 @@ use crate::model::{
 use crate::sheet_calls::{any_sheet, malformed_gaps_line, sheet_of};
 
 mod bursts;
+mod modes;
+
+pub use modes::{in_mode, LIVE_MODES};
 
 /// Whether scripts and steps have `gaps` lines: once the programs under test know the form.
 pub const GAPS_LINES: bool = true;
@@ -271,6 +274,8 @@ enum Act {
     Bytes,
     Open,
     OpenBadly,
+    OtherMode,
+    Columns,
     Lend,
     FillRoom,
     Cut,
@@ -356,8 +361,12 @@ impl Habits {
             let bank = rng.below(16);
             busy.push(bank);
             if rng.chance(60) {
-                // Its neighbour in the group.
+                // Its neighbour in a group of two.
                 busy.push(bank ^ 1);
+            }
+            if rng.chance(50) {
+                // Of the two beside, in a group of four.
+                busy.push(bank ^ rng.pick(&[2, 3]));
             }
         }
         Habits { busy, taste }
@@ -644,11 +653,14 @@ impl Player {
             Mood::TwoRanks => 2,
             _ => self.rng.between(1, 2),
         };
-        (ratio, ranks, self.rng.below(2))
+        (ratio, ranks, self.rng.pick(&LIVE_MODES))
     }
 
     fn open(&mut self) {
         let (ratio, ranks, mode) = self.settings();
+        if self.rng.chance(14) {
+            self.open_in_mode_1(ratio, ranks);
+        }
         let answer = self.open_with(ratio, ranks, mode);
         self.begin(answer);
     }
@@ -657,6 +669,9 @@ impl Player {
     fn begin(&mut self, answer: Option<String>) {
         if answer.as_deref() == Some("open 0") {
             self.new_habits();
+            if self.rng.chance(26) {
+                self.begin_in_mode_1();
+            }
             if self.mood == Mood::Limit {
                 self.go_to_the_limit();
             }
@@ -726,7 +741,7 @@ impl Player {
         let (mut ratio, mut ranks, mut mode) = (
             self.rng.pick(&[1, 2, 4]),
             self.rng.between(1, 2),
-            self.rng.below(2),
+            self.rng.pick(&LIVE_MODES),
         );
         let which = self.rng.between(1, 7);
         if which & 1 != 0 {
@@ -739,7 +754,7 @@ impl Player {
         }
         if which & 4 != 0 {
             let edge = self.rng.pick(&EDGES);
-            mode = self.rng.pick(&[2, 3, 256, 257, 1 << 32, edge]);
+            mode = self.rng.pick(&[1, 1, 3, 256, 257, 258, 1 << 32, edge]);
         }
         self.open_with(ratio, ranks, mode);
         if self.rng.chance(40) {
@@ -837,7 +852,7 @@ impl Player {
         for kind in 1..=7 {
             let bank = match kind {
                 PREAB | REFAB => 0,
-                _ => self.rng.pick(&[bank, bank, bank ^ 1, (bank + 2) % 16]),
+                _ => bank ^ self.rng.pick(&[0, 0, 1, 1, 2, 3, 4]),
             };
             let kind = self.kind_word(kind);
             self.say(&format!("ask {kind} {rank} {bank}"));
@@ -869,10 +884,16 @@ impl Player {
             };
             let bank = match kind {
                 PREAB | REFAB => 0,
-                _ => self.rng.pick(&[taken.bank, taken.bank ^ 1, taken.bank]),
+                _ => taken.bank ^ self.rng.pick(&[0, 0, 0, 1, 1, 2, 3]),
             };
             let kind = self.kind_word(kind);
             self.say(&format!("ask {kind} {} {bank}", taken.rank));
+        }
+    }
+
+    fn back_run(&mut self) {
+        for _ in 0..self.rng.between(2, 9) {
+            self.back();
         }
     }
 
@@ -1150,7 +1171,7 @@ impl Player {
             1 => match self.rng.below(12) {
                 0 | 1 => vec![(1, self.rng.pick(&[0, 1, 2, 3, 4, 5, 8, 255]))],
                 2 | 3 => vec![(2, self.rng.pick(&[0, 1, 2, 3, 255]))],
-                4 | 5 => vec![(3, self.rng.pick(&[0, 1, 2, 255]))],
+                4 | 5 => vec![(3, self.rng.pick(&[0, 1, 2, 3, 255]))],
                 6 => {
                     let at = self.rng.between(4, 7) as usize;
                     vec![(at, near(&mut self.rng, old[at]))]
@@ -1354,7 +1375,8 @@ impl Player {
         match self.rng.below(12) {
             0 => {
                 let gaps: Vec<String> = self.gaps().iter().map(u16::to_string).collect();
-                format!("open 1 2 0 {} {}", self.client(), gaps.join(" "))
+                let mode = self.rng.pick(&[0, 1, 2]);
+                format!("open 1 2 {mode} {} {}", self.client(), gaps.join(" "))
             }
             1..=3 => format!("offer {word} {rank} {bank} {earliest}"),
             4 | 5 => format!("ask {word} {rank} {bank}"),
@@ -1671,6 +1693,8 @@ impl Player {
                 (Status, 2),
                 (Bytes, 2),
                 (Stretch, 1),
+                (OtherMode, 1),
+                (Columns, 3),
             ],
             Mood::SecondThoughts => &[
                 (Offer, 40),
@@ -1683,6 +1707,8 @@ impl Player {
                 (Status, 4),
                 (CutAndReturn, 1),
                 (Open, 1),
+                (OtherMode, 1),
+                (Columns, 3),
             ],
             Mood::Deep => &[
                 (Run, 20),
@@ -1692,6 +1718,8 @@ impl Player {
                 (Status, 2),
                 (CutAndReturn, 1),
                 (Open, 1),
+                (OtherMode, 1),
+                (Columns, 2),
             ],
             Mood::Clients => &[
                 (Offer, 50),
@@ -1706,6 +1734,8 @@ impl Player {
                 (CutAndReturn, 4),
                 (Damage, 1),
                 (Lend, 1),
+                (OtherMode, 3),
+                (Columns, 3),
             ],
             Mood::TwoRanks => &[
                 (Offer, 60),
@@ -1717,6 +1747,8 @@ impl Player {
                 (Status, 2),
                 (CutAndReturn, 1),
                 (Open, 1),
+                (OtherMode, 1),
+                (Columns, 3),
             ],
             Mood::FourActivates => &[
                 (Offer, 50),
@@ -1727,6 +1759,8 @@ impl Player {
                 (Status, 1),
                 (CutAndReturn, 1),
                 (Open, 2),
+                (OtherMode, 1),
+                (Columns, 2),
             ],
             Mood::Limit => &[
                 (Offer, 40),
@@ -1740,6 +1774,8 @@ impl Player {
                 (CutAndReturn, 2),
                 (Damage, 1),
                 (Open, 6),
+                (OtherMode, 2),
+                (Columns, 2),
             ],
             Mood::Room => &[
                 (Offer, 20),
@@ -1753,6 +1789,8 @@ impl Player {
                 (FillRoom, 10),
                 (Cut, 2),
                 (CutAndReturn, 2),
+                (OtherMode, 2),
+                (Columns, 2),
             ],
             Mood::Cuts => &[
                 (Offer, 40),
@@ -1768,6 +1806,8 @@ impl Player {
                 (Lend, 1),
                 (Cut, 5),
                 (CutAndReturn, 12),
+                (OtherMode, 2),
+                (Columns, 2),
             ],
             Mood::Damage => &[
                 (Offer, 40),
@@ -1780,6 +1820,8 @@ impl Player {
                 (Open, 2),
                 (CutAndReturn, 2),
                 (Damage, 16),
+                (OtherMode, 3),
+                (Columns, 2),
             ],
             Mood::Malformed => &[
                 (Offer, 25),
@@ -1788,6 +1830,8 @@ impl Player {
                 (Status, 4),
                 (Open, 1),
                 (Malformed, 50),
+                (OtherMode, 1),
+                (Columns, 2),
             ],
             Mood::Wild => &[
                 (Offer, 25),
@@ -1800,6 +1844,8 @@ impl Player {
                 (Wild, 40),
                 (Malformed, 3),
                 (Lend, 2),
+                (OtherMode, 2),
+                (Columns, 2),
             ],
             Mood::Mixed => &[
                 (Offer, 60),
@@ -1821,6 +1867,8 @@ impl Player {
                 (Damage, 3),
                 (Malformed, 6),
                 (Wild, 5),
+                (OtherMode, 3),
+                (Columns, 3),
             ],
         }
     }
@@ -1843,11 +1891,7 @@ impl Player {
             Act::Ask => self.ask(),
             Act::Sweep => self.sweep(),
             Act::Back => self.back(),
-            Act::BackRun => {
-                for _ in 0..self.rng.between(2, 9) {
-                    self.back();
-                }
-            }
+            Act::BackRun => self.back_run(),
             Act::ToTheBottom => self.back_to_bottom(),
             Act::Status => {
                 self.say("status");
@@ -1856,6 +1900,8 @@ impl Player {
             Act::Bytes => self.bytes(),
             Act::Open => self.open(),
             Act::OpenBadly => self.open_badly(),
+            Act::OtherMode => self.other_mode(),
+            Act::Columns => self.columns(),
             Act::Lend => self.lend(),
             Act::FillRoom => self.fill_room(),
             Act::Cut => self.cut(),
@@ -1896,7 +1942,7 @@ impl Player {
 
     /// Mostly a line without a newline, which is answered and not played: also one that would be accepted, or ask nothing.
     fn last_line(&mut self) -> Vec<u8> {
-        if self.forms.gaps && self.rng.chance(6) {
+        if self.forms.gaps && self.rng.chance(10) {
             return any_sheet(&mut self.rng).to_string().into_bytes();
         }
         if self.forms.bursts && self.rng.chance(10) {
@@ -2144,7 +2190,7 @@ pub fn spoil(rng: &mut Rng, good: &[u8], way: Bad) -> Option<(Vec<u8>, usize)> {
             match rng.below(3) {
                 0 => record[1] = rng.pick(&[0, 3, 5, 8, 128, 255]),
                 1 => record[2] = rng.pick(&[0, 3, 4, 255]),
-                _ => record[3] = rng.pick(&[2, 3, 128, 255]),
+                _ => record[3] = rng.pick(&[3, 4, 128, 255]),
             }
         }
     }
@@ -2390,8 +2436,10 @@ mod tests {
                 let mut lent = vec![0; RECORD * (at + 1)];
                 let live = match record[0] {
                     1 => {
-                        let given = [1, 2, 3].map(|i| u64::from(record[i]));
-                        state.open(&mut lent, (given[0], given[1], given[2]), 0, [0; 20])
+                        let [ratio, ranks, mode] = [1, 2, 3].map(|i| u64::from(record[i]));
+                        // What is stored in mode 1 would be opened in mode 2.
+                        let mode = if mode == 1 { 2 } else { mode };
+                        state.open(&mut lent, (ratio, ranks, mode), 0, [0; 20])
                     }
                     2 => {
                         let command = Command::in_record(record);

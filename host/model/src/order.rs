@@ -175,7 +175,7 @@ pub fn broken_off(before: &[u8], after: &[u8], end: usize) -> Vec<u8> {
 mod tests {
     use super::*;
     use crate::disk::{new_bytes, Disk};
-    use crate::file::{Played, Put};
+    use crate::file::{from_before, Played, Put};
     use crate::generate::{Forms, Rng};
     use crate::model::State;
 
@@ -344,6 +344,7 @@ mod tests {
         };
         let count = rng.between(1, 12) as usize;
         let file = Played::with(&mut rng, b"", count, forms).after;
+        let file = from_before(&mut rng, &file);
         let loose = rng.pick(&[0, 1, 63]);
         let before = [file, vec![0; loose]].concat();
         Played::with(&mut rng, &before, 50, forms)

@@ -241,14 +241,18 @@ fn the_whole_memory_is_room(programs: &Programs) {
     let gaps = "0 ".repeat(20);
     let mut input = String::new();
     for client in 0..65_400 {
-        input.push_str(&format!("open 1 2 1 {client} {gaps}\n"));
+        input.push_str(&format!("open 1 2 2 {client} {gaps}\n"));
     }
     for cycle in 0..140 {
         input.push_str(&format!("offer RD 1 3 {cycle}\n"));
     }
     input.push_str("back\nstatus\nask ACT 0 0\noffer ACT 0 0 135\noffer ACT 0 0 136\n");
-    input.push_str(&format!("open 1 1 1 1 {gaps}\nopen 3 1 1 1 {gaps}\n"));
+    for settings in ["1 1 2", "1 1 1", "3 1 2"] {
+        input.push_str(&format!("open {settings} 1 {gaps}\n"));
+    }
     input.push_str("restore 4194304\nstatus\nstretch\nbytes 4194240 64\nback\n");
+    // The last opening, and one long before it, in mode 1.
+    input.push_str(&format!("poke {} 1\npoke 643 1\n", 64 * 65_399 + 3));
     input.push_str("restore 4194303\nstatus\nback\nback\nstatus\n");
     let mut console = Console::new();
     let expected = console.feed(input.as_bytes());
@@ -536,10 +540,10 @@ fn odd_bytes_are_listed_as_the_model_does(programs: &Programs) {
             compare_listing(&program, &vec![first; length], "one byte again and again");
         }
     }
-    for kind in 0..9 {
-        // One opening, one command of each number, nothing else.
+    for (mode, kind) in (0..5 * 9).map(|n| (n / 9, n % 9)) {
+        // One opening in each mode, one command of each number, nothing else.
         let mut journal = vec![0; 128];
-        journal[..4].copy_from_slice(&[1, 1, 1, 0]);
+        journal[..4].copy_from_slice(&[1, 1, 1, mode]);
         journal[64..66].copy_from_slice(&[2, kind]);
         compare_listing(&program, &journal, "one command");
     }
@@ -568,6 +572,7 @@ fn ends_at_the_record_limit(programs: &Programs) {
             for record in 0..1_024 {
                 let client = 1_024 * block + record;
                 let at = 64 * record as usize + 4;
+                many[at - 1] = (record % 3) as u8;
                 many[at..at + 4].copy_from_slice(&client.to_le_bytes());
             }
             if input.write_all(&many).is_err() {

@@ -3,9 +3,9 @@
 
 use rossinhiu_model::disk::new_bytes;
 use rossinhiu_model::file::{
-    answered, printed, puts, sent, step_at, steps, FileConsole, Played, Start, Step,
+    answered, from_before, printed, puts, sent, step_at, steps, FileConsole, Played, Start, Step,
 };
-use rossinhiu_model::generate::{script, Rng, MOODS};
+use rossinhiu_model::generate::{opening_a, script, Rng, MOODS};
 use rossinhiu_model::harness::*;
 use rossinhiu_model::listing::list;
 use rossinhiu_model::model::RECORD;
@@ -34,6 +34,14 @@ rossinhiu_model::of_both! {
 /// Bytes of a record that was cut off.
 fn loose(count: usize) -> Vec<u8> {
     [vec![1], vec![9; 63]].concat()[..count].to_vec()
+}
+
+/// A session in mode 1 from before request 2026-04, with such bytes behind.
+fn older(count: usize) -> Vec<u8> {
+    let mut model = FileConsole::over(b"");
+    model.step(opening_a());
+    model.file[3] = 1;
+    [model.file, loose(count)].concat()
 }
 
 // The text language.
@@ -133,9 +141,10 @@ fn an_answer_comes_after_its_record_is_durable(programs: &Programs) {
         let steps = steps(&mut rng, &mut model, 150);
         whole_run(&bench, &folder, &steps, file.as_deref());
         assert_file(&folder.at("whole"), &model.file, "under the shim");
-        // Loose bytes for the next round.
+        // Loose bytes for the next round, often behind a session in mode 1.
         let cut = rng.below(64);
-        file = Some(model.file[..model.file.len() - cut as usize].to_vec());
+        let left = &model.file[..model.file.len() - cut as usize];
+        file = Some(from_before(&mut rng, left));
     }
 }
 
@@ -178,8 +187,8 @@ fn a_failed_write_has_no_answer(programs: &Programs) {
     let _turn = turn();
     let (bench, folder) = (programs.bench(), Folder::new());
     let mut rng = Rng::new(seed() + 3);
-    for count in [0, 40] {
-        let played = Played::new(&mut rng, &loose(count), 120);
+    for base in [loose(40), older(40)] {
+        let played = Played::new(&mut rng, &base, 120);
         let touches = whole_run(&bench, &folder, &played.steps, Some(&played.before));
         assert!(touches.len() > 20);
         // Each write, and the sync behind it.
@@ -204,7 +213,7 @@ fn a_kill_at_each_call(programs: &Programs) {
     let _turn = turn();
     let (bench, folder) = (programs.bench(), Folder::new());
     let mut rng = Rng::new(seed() + 4);
-    let played = Played::new(&mut rng, &loose(13), 100);
+    let played = Played::new(&mut rng, &older(13), 100);
     let touches = whole_run(&bench, &folder, &played.steps, Some(&played.before));
     for touch in touches.iter().take(32) {
         let about = (&bench, &folder);
@@ -333,7 +342,7 @@ fn a_hundred_kills(programs: &Programs) {
         if rng.chance(60) && file.len() >= RECORD {
             let last = (file.len() / RECORD - 1) * RECORD;
             file.truncate(last + rng.below(RECORD as u64) as usize);
-            fs::write(&path, &file).unwrap();
+            fs::write(&path, from_before(&mut rng, &file)).unwrap();
             cuts += 1;
         }
         assert!(matches!(FileConsole::start(&file), Start::Open(..)));

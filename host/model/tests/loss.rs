@@ -7,7 +7,7 @@
 
 use rossinhiu_model::disk::{new_bytes, Disk, Told, SECTOR};
 use rossinhiu_model::file::{
-    answered, printed, puts, sent, step_at, steps, FileConsole, Played, Start, Step,
+    answered, from_before, printed, puts, sent, step_at, steps, FileConsole, Played, Start, Step,
 };
 use rossinhiu_model::generate::{Rng, BURST_LINES};
 use rossinhiu_model::harness::*;
@@ -56,7 +56,7 @@ impl<'a> Lab<'a> {
         let count = rng.between(1, 60) as usize;
         steps(&mut rng, &mut model, count);
         let loose = vec![0; rng.below(64) as usize];
-        let bytes = [model.file, loose].concat();
+        let bytes = [from_before(&mut rng, &model.file), loose].concat();
         // No file, one that was just made or copied there, or one that has long been there.
         match seed % 4 {
             0 => {}

@@ -282,7 +282,7 @@ fn bench_help_has_the_forms_and_the_numbers() {
         "7 too early",
         "8 depth is 0",
         "9 no room for a record",
-        "10 ratio not 1, 2, 4; ranks not 1, 2; mode not 0, 1",
+        "10 ratio not 1, 2, 4; ranks not 1, 2; mode not 0, 2",
         "11 bad record in a restore",
         "13 TCK not 1 to 1000000",
         "14 a time above 4294967295, or a gap above 65535",

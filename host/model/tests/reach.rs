@@ -102,3 +102,49 @@ fn every_end_of_a_burst_is_reached() {
     // More than can be taken back, in one line.
     assert!(text.contains("\nburst 66 0 0 0\n"));
 }
+
+/// What an answer shows of the mode of the session that it leaves.
+fn shown(mode: u64, answer: &str) -> Option<String> {
+    let words: Vec<&str> = answer.trim_end().split(' ').collect();
+    let what = match words.as_slice() {
+        [call @ ("offer" | "burst"), .., "7", _, gap] => format!("{call} 7 by {gap}"),
+        ["ask", "0", _, gap] => format!("ask 0 by {gap}"),
+        ["burst", _, number, ..] => format!("burst {number}"),
+        [call @ ("offer" | "back" | "restore" | "open"), number, ..] => format!("{call} {number}"),
+        _ => return None,
+    };
+    Some(format!("mode {mode}: {what}"))
+}
+
+/// Each mode's own gaps, by an offer and by a question; bursts, take-backs, a restore, and who opens in it.
+#[test]
+fn every_mode_is_reached() {
+    let mut console = Console::new();
+    let mut seen = BTreeSet::new();
+    for line in file("stdin").split_inclusive(|b| *b == b'\n') {
+        let answer = String::from_utf8(console.feed(line)).expect("answers are plain text");
+        if answer == "open 10\n" && line.starts_with(b"open 1 1 1 ") {
+            seen.insert("mode 1 refused".to_string());
+        }
+        let session = console.state.session();
+        seen.extend(session.and_then(|(_, opening)| shown(opening.mode, &answer)));
+    }
+    let mut due = vec!["mode 1 refused".to_string()];
+    for (mode, gaps) in [
+        (0, vec![5, 10]),
+        (1, vec![6, 7, 11, 12]),
+        (2, vec![6, 7, 11, 12]),
+    ] {
+        for what in ["offer 0", "burst 0", "back 0", "restore 0"] {
+            due.push(format!("mode {mode}: {what}"));
+        }
+        for gap in gaps {
+            due.extend(["offer 7", "ask 0"].map(|call| format!("mode {mode}: {call} by {gap}")));
+        }
+    }
+    due.extend([0, 2].map(|mode| format!("mode {mode}: open 0")));
+    due.extend([1, 2].map(|mode| format!("mode {mode}: burst 7 by 7")));
+    let missing: Vec<&String> = due.iter().filter(|key| !seen.contains(*key)).collect();
+    assert!(missing.is_empty(), "{missing:?}");
+    assert!(!seen.contains("mode 1: open 0"));
+}

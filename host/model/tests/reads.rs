@@ -2,7 +2,7 @@
 //! newline: `bench` in memory and over a file, and `list`.
 
 use rossinhiu_model::file::{sent, steps, FileConsole};
-use rossinhiu_model::generate::{opening_a, script, Rng};
+use rossinhiu_model::generate::{in_mode, opening_a, script, Rng};
 use rossinhiu_model::harness::*;
 use rossinhiu_model::listing::{list, list_broken};
 use rossinhiu_model::model::RECORD;
@@ -47,11 +47,15 @@ fn assert_played(
     ran
 }
 
-/// A journal of some records, with loose bytes behind.
+/// A journal of some records, the last session in mode 1, with loose bytes behind.
 fn base() -> Vec<u8> {
     let mut model = FileConsole::over(b"");
     steps(&mut Rng::new(seed()), &mut model, 30);
-    [model.file, vec![5; 11]].concat()
+    let mut file = model.file;
+    let (at, records) = in_mode(&file, 1).expect("an opening");
+    file[at] = 1;
+    file.truncate(RECORD * records);
+    [file, vec![5; 11]].concat()
 }
 
 const UNREAD: [&str; 2] = ["standard input can't be read", "Input/output error"];
@@ -63,7 +67,7 @@ fn a_failed_read_plays_whole_lines_only(programs: &Programs) {
     let folder = Folder::new();
     let base = base();
     let mut rng = Rng::new(seed() + 1);
-    let second = "open 2 2 1 9 60 8 18 42 8 8 4 20 8 24 26 18 34 18 21 4 280 140 90 32";
+    let second = "open 2 2 2 9 60 8 18 42 8 8 4 20 8 24 26 18 34 18 21 4 280 140 90 32";
     let input = format!("{}\noffer ACT 0 3 100\n# \n{second}\nback", opening_a());
     let input = input.as_bytes();
     for count in 0..=input.len() {

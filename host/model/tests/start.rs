@@ -19,6 +19,7 @@ rossinhiu_model::of_both! {
     a_file_that_may_not_be_written_is_left_alone,
     a_file_that_is_too_long_is_left_alone,
     a_full_journal_restores,
+    the_mode_of_a_stored_opening,
     a_bad_record_is_left_alone,
     a_file_that_is_no_journal_is_left_alone,
     what_cannot_be_made_read_or_named,
@@ -240,6 +241,43 @@ fn a_full_journal_restores(programs: &Programs) {
     assert_eq!(ran.text(), expected);
     assert_eq!(ran.said(), "");
     assert_file(&path, &bytes, "the last place taken");
+}
+
+/// Request 2026-04: what stands in mode 1 goes on with groups of two, though nobody opens so any more.
+fn the_mode_of_a_stored_opening(programs: &Programs) {
+    let _turn = turn();
+    let folder = Folder::new();
+    let path = folder.at("journal");
+    let refused = opening_a().replacen("4 1 0", "1 1 1", 1);
+    let input =
+        format!("offer RD 0 0 10\nask RD 0 1\nask RD 0 2\nask RD 0 4\n{refused}\nback\nstatus\n");
+    for (mode, asks) in [
+        (0, Some(["18 5", "18 5", "18 5"])),
+        (1, Some(["18 6", "16 7", "16 7"])),
+        (2, Some(["18 6", "18 6", "16 7"])),
+        (3, None),
+        (255, None),
+    ] {
+        let mut file = one_opening();
+        file[1] = 1;
+        file[3] = mode;
+        fs::write(&path, &file).unwrap();
+        let ran = run(&mut command(&programs.bench(), &[&path]), input.as_bytes());
+        let listed = run(
+            &mut command(&programs.list(), &[]),
+            &fs::read(&path).unwrap(),
+        );
+        let Some([two, four, far]) = asks else {
+            assert_eq!(ran.text(), "restore 11 0\n", "{mode}");
+            assert_eq!(listed.text(), "bad 0\n", "{mode}");
+            continue;
+        };
+        let expected = format!(
+            "restore 0 0\noffer 0 10 0\nask 0 {two}\nask 0 {four}\nask 0 {far}\nopen 10\nback 0\nstatus 0 7 0 0 0 0 3\n"
+        );
+        assert_eq!(ran.text(), expected, "{mode}");
+        assert_eq!(listed.text(), "0 open 7\n1 RD 0 0 10\n2 back\nend 3 0\n");
+    }
 }
 
 const LAST: &str = "It is the last, so most likely its write was under way";

@@ -1,8 +1,8 @@
 //! `rossinhiu list` with its options and `rossinhiu stretch`, held against the model's listing and the journal's own bytes. The plain
 //! listing is held by tests/console.rs and tests/reads.rs.
 
-use rossinhiu_model::file::{steps, FileConsole};
-use rossinhiu_model::generate::{spoil, Rng, BADS};
+use rossinhiu_model::file::{from_before, steps, FileConsole};
+use rossinhiu_model::generate::{spoil, Rng, BADS, LIVE_MODES};
 use rossinhiu_model::harness::*;
 use rossinhiu_model::listing::list;
 use rossinhiu_model::model::RECORD;
@@ -19,18 +19,21 @@ fn name(path: &Path) -> &str {
     path.to_str().unwrap()
 }
 
-/// A journal of some clients, of whom each opens more than once, with loose bytes behind.
+/// A journal of some clients, of whom each opens more than once, sessions in mode 1 among theirs, with loose bytes behind.
 fn journal(seed: u64, loose: usize) -> Vec<u8> {
     let mut rng = Rng::new(seed);
-    let mut model = FileConsole::over(b"");
+    let mut file = Vec::new();
     for _ in 0..12 {
+        let mut model = FileConsole::over(&from_before(&mut rng, &file));
         let gaps = "9 ".repeat(20);
-        model.step(format!("open 1 2 1 {} {gaps}", rng.below(3)));
+        let mode = rng.pick(&LIVE_MODES);
+        model.step(format!("open 1 2 {mode} {} {gaps}", rng.below(3)));
         let count = rng.below(8) as usize;
         // An opening among these is of a client that nobody asks for.
         steps(&mut rng, &mut model, count);
+        file = model.file;
     }
-    [model.file, vec![1; loose]].concat()
+    [file, vec![1; loose]].concat()
 }
 
 /// A journal's lines and records, and whose each is.

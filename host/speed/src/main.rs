@@ -20,7 +20,6 @@ use std::time::Instant;
 
 const RATIO: u64 = 4;
 const RANKS: u64 = 2;
-const MODE: u64 = 1;
 const OFFERS: usize = 4096;
 
 const LIBRARY: &str = "library through C";
@@ -49,6 +48,21 @@ fn played(state: &mut ffi::Session, bytes: &mut [u8], dice: &mut Dice) -> Comman
     c
 }
 
+/// The mode of every opening: 2, or what ROSSINHIU_MODE says. An archive from before mode 2 stands beside this one's in mode 1.
+fn mode() -> u8 {
+    let given = std::env::var("ROSSINHIU_MODE").ok();
+    given.map_or(2, |mode| mode.parse().expect("ROSSINHIU_MODE is a mode"))
+}
+
+/// An opening; one of mode 1, which is not opened any more, as an old record has it.
+fn open(state: &mut ffi::Session, bytes: &mut [u8]) {
+    let at = state.progress.records as usize * RECORD;
+    let number = twin::open(state, bytes, (RATIO, RANKS, 2), 7, &SETTINGS_A);
+    assert_eq!(number, 0);
+    bytes[at + 3] = mode();
+    state.terms.opening.mode = mode();
+}
+
 /// A journal of so many records: an opening at every 10,000th, a take-back once in so many.
 fn journal(records: usize, once_in: usize) -> Vec<u8> {
     let mut dice = Dice(20_260_001);
@@ -56,9 +70,7 @@ fn journal(records: usize, once_in: usize) -> Vec<u8> {
     let mut state = twin::fresh();
     for n in 0..records {
         if n % 10_000 == 0 {
-            let settings = (RATIO, RANKS, MODE);
-            let number = twin::open(&mut state, &mut bytes, settings, 7, &SETTINGS_A);
-            assert_eq!(number, 0);
+            open(&mut state, &mut bytes);
         } else if n % once_in == once_in / 2 && state.progress.depth > 0 {
             assert_eq!(twin::take_back(&mut state, &mut bytes), 0);
         } else {
@@ -139,7 +151,7 @@ impl Table {
 fn opened() -> ffi::Session {
     let mut state = twin::fresh();
     let mut room = [0; RECORD];
-    twin::open(&mut state, &mut room, (RATIO, RANKS, MODE), 7, &SETTINGS_A);
+    open(&mut state, &mut room);
     state
 }
 
@@ -203,7 +215,7 @@ fn from_start(
 
 /// Source 000's design, with these commands in its tables.
 fn design_with(before: &[Command]) -> source000::Checker {
-    let mut design = source000::Checker::new(RATIO, RANKS as usize, MODE, &SETTINGS_A);
+    let mut design = source000::Checker::new(RATIO, RANKS as usize, mode().into(), &SETTINGS_A);
     for c in before {
         design.insert(c.kind as usize, c.rank as usize, c.bank as usize, c.cycle);
     }

@@ -14,6 +14,7 @@ pub struct Checker {
     ratio: u64,
     controller_cycle: u64,
     groups: bool,
+    group_size: usize,
     by_bank: Vec<Vec<u64>>,
     by_group: Vec<Vec<u64>>,
     by_rank: Vec<Vec<u64>>,
@@ -28,7 +29,8 @@ impl Checker {
             gaps: gaps.map(|gap| u64::from(gap) * CYCLE),
             ratio,
             controller_cycle: CYCLE * ratio,
-            groups: mode == 1,
+            groups: mode != 0,
+            group_size: if mode == 2 { 4 } else { 2 },
             by_bank: vec![vec![NEVER; 16 * ranks]; 8],
             by_group: vec![vec![NEVER; 8 * ranks]; 8],
             by_rank: vec![vec![NEVER; ranks]; 8],
@@ -57,7 +59,7 @@ impl Checker {
     pub fn earliest(&self, kind: usize, rank: usize, bank: usize) -> u64 {
         let mut time = self.now;
         let at = rank * 16 + bank;
-        let group = rank * 8 + bank / 2;
+        let group = rank * 8 + bank / self.group_size;
         match kind {
             1 => self.activate(&mut time, rank, at),
             2 => self.column(&mut time, (2, 3), (rank, group, at)),
@@ -125,7 +127,7 @@ impl Checker {
     pub fn insert(&mut self, kind: usize, rank: usize, bank: usize, cycle: u64) {
         let time = cycle * self.controller_cycle;
         self.by_bank[kind][rank * 16 + bank] = time;
-        self.by_group[kind][rank * 8 + bank / 2] = time;
+        self.by_group[kind][rank * 8 + bank / self.group_size] = time;
         self.by_rank[kind][rank] = time;
         self.by_command[kind] = time;
         self.now = time + self.controller_cycle;

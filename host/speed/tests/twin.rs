@@ -9,8 +9,8 @@ use rossinhiu_speed::twin;
 /// Stamps and gaps that meet and tie often, with many zeros among them.
 fn any_state(dice: &mut Dice) -> ffi::Session {
     let mut state = twin::fresh();
-    let given = (4, 2, dice.below(2));
-    twin::open(&mut state, &mut [0; RECORD], given, 7, &SETTINGS_A);
+    twin::open(&mut state, &mut [0; RECORD], (4, 2, 0), 7, &SETTINGS_A);
+    state.terms.opening.mode = dice.below(3) as u8;
     let most = [1, 4, 40, 4000, 1 << 40][dice.below(5) as usize];
     for kept in state.last.iter_mut().chain(&mut state.progress.activates) {
         *kept = dice.below(3).min(1) * dice.below(most);
@@ -25,6 +25,8 @@ fn any_state(dice: &mut Dice) -> ffi::Session {
 /// The latest ask over all entries of the rank: the cycle, and the lowest gap number that asks for it; 0 if none does.
 fn full_scan(state: &ffi::Session, kind: usize, rank: usize, bank: usize) -> (u64, u64) {
     let names_none = |kind| kind == 4 || kind == 5;
+    let mode = state.terms.opening.mode as usize;
+    let group = |bank| bank / if mode == 2 { 4 } else { 2 };
     let mut asks = vec![(state.progress.latest, 0)];
     let mut add = |kept: u64, gap: usize| {
         if kept != 0 && gap != 0 {
@@ -36,9 +38,9 @@ fn full_scan(state: &ffi::Session, kind: usize, rank: usize, bank: usize) -> (u6
         let class = if names_none(first) || names_none(kind) {
             2
         } else {
-            usize::from(other != bank) + usize::from(other / 2 != bank / 2)
+            usize::from(other != bank) + usize::from(group(other) != group(bank))
         };
-        let place = ((state.terms.opening.mode as usize * 3 + class) * 7 + first) * 7 + kind;
+        let place = ((mode * 3 + class) * 7 + first) * 7 + kind;
         add(state.last[rank * 112 + i], twin::TABLE[place].into());
     }
     if kind == 0 {

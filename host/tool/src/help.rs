@@ -47,7 +47,7 @@ Requests, and what is printed:
   gaps TCK T1 .. T20                       gaps N GAP G1 .. G20
   restore BYTES                            restore N AT     (in memory only)
   poke AT BYTE                             poke AT BYTE     (in memory only)
-RATIO is 1, 2 or 4; RANKS 1 or 2; MODE 0 (16-bank) or 1 (bank-group); G1 to G20 are the gaps in DRAM cycles.
+RATIO is 1, 2 or 4; RANKS 1 or 2; MODE 0 (16-bank) or 2 (four groups of four); G1 to G20 are the gaps in DRAM cycles.
 KIND is ACT RD WR PREPB PREAB REFAB REFPB, or 1 to 7 in this order. CYCLE is in controller cycles.
 A burst is any number of offers in one line: COUNT were accepted, then comes the first refusal, or zeros. What comes behind it is not
 looked at.
@@ -65,7 +65,7 @@ N, the answer's number:
    7 too early: CYCLE is the earliest, GAP the gap that asks for it
    8 depth is 0: nothing left to take back
    9 no room for a record
-  10 ratio not 1, 2, 4; ranks not 1, 2; mode not 0, 1
+  10 ratio not 1, 2, 4; ranks not 1, 2; mode not 0, 2
   11 bad record in a restore: AT is its number
   13 TCK not 1 to 1000000
   14 a time above 4294967295, or a gap above 65535: GAP is the lowest such

@@ -1,6 +1,6 @@
 //! Bursts among the other lines of a script: request 2026-02 at its edges.
 
-use super::{padded, Mood, Player, JOURNAL};
+use super::{padded, Mood, Player, JOURNAL, LIVE_MODES};
 use crate::burst_calls::{
     activates_for, any_place, burst_line, fullest_line, list_for, malformed_burst_line, Refusal,
 };
@@ -228,7 +228,8 @@ impl Player {
         if self.count() > MANY_RECORDS {
             return;
         }
-        let opened = self.say(&format!("open 1 1 0 7{}", " 0".repeat(20)));
+        let mode = self.rng.pick(&LIVE_MODES);
+        let opened = self.say(&format!("open 1 1 {mode} 7{}", " 0".repeat(20)));
         self.begin(opened);
         let mut line = "burst".to_string();
         for cycle in 0.. {

@@ -6,13 +6,12 @@ use native.Mathlib.Omega.{arith}
 use lib.ListN.{length}
 use Rattle.history.specs.Records.{command}
 use Rattle.history.specs.Answers.{roomOf}
-use Rattle.journal.specs.declared.records.Offer.{Offer}
 use Rattle.journal.specs.Bytes.{offerFrom}
 use Rattle.journal.specs.Restore.{offersFrom}
 use Rattle.journal.proofs.PieceLaws.{piece, piece-is, piece-size}
-use Rattle.judging.specs.Judged.{replyIn}
 use Rattle.statements.specs.Bursts.{over, verdictIn}
 use Rattle.statements.proofs.BurstLaws.{bursts, Bursting, bursting-start, bursting-end, bursting-refused, bursting-accepted, leftFrom, left-all, left-none, left-one}
+use Rattle.timing.specs.Table.{layerOf}
 use Rattle.scan.specs.Rows.{stamps, gapSteps}
 use Rattle.scan.proofs.LentLaws.{stamps-set}
 use borrow.Author.Needs.{needs}
@@ -20,7 +19,7 @@ use Rattle.bursts.proofs.pieces.offer_pieces.Statement.{statement}
 use Rattle.bursts.proofs.pieces.offer_pieces.Tie as tie
 
 abbrev Inv-loop : tie.InvT-loop
-Inv-loop journal₀ pieces session₀ whole most gap-table steps last₀ i₀ journal session last i = Bursting session₀ journal₀ (offersFrom pieces) session journal i (leftFrom pieces i) × (length journal ≡ length journal₀) × (stamps last ≡ session .last) × (steps ≡ gapSteps (session .terms .rounded))
+Inv-loop journal₀ pieces session₀ whole most gap-table steps last₀ i₀ journal session last i = Bursting session₀ journal₀ (offersFrom pieces) session journal i (leftFrom pieces i) × (length journal ≡ length journal₀) × (stamps last ≡ session .last) × (steps ≡ gapSteps (session .terms .rounded)) × (gap-table ≡ layerOf (session .terms .opening))
 
 abbrev μ-loop : tie.MeasureT-loop
 μ-loop journal₀ pieces session₀ whole most gap-table steps last₀ i₀ journal session last i = whole - i
@@ -38,7 +37,7 @@ numbers-requires : tie.Need-numbers-requires Inv-loop μ-loop
 numbers-requires c κs = search needs
 
 loop-holds : tie.Need-loop-holds Inv-loop μ-loop
-loop-holds c = let a = c .before .before .before .before .before .before .before .before .before .args in (rw (left-all (a .pieces .now)) (bursting-start (a .t1) (a .journal .now) (offersFrom (a .pieces .now))), refl, c .numbers .ensures, c .before .before .gap-steps .ensures)
+loop-holds c = let a = c .before .before .before .before .before .before .before .before .before .args in (rw (left-all (a .pieces .now)) (bursting-start (a .t1) (a .journal .now) (offersFrom (a .pieces .now))), refl, c .numbers .ensures, c .before .before .gap-steps .ensures, c .before .before .before .before .table .ensures)
 
 mul-start : tie.Need-mul-start Inv-loop μ-loop
 mul-start c = search needs
@@ -59,7 +58,7 @@ read-offer-requires : tie.Need-read-offer-requires Inv-loop μ-loop
 read-offer-requires c κs = let p = c .before .before .before .before .before .before .before .before .before .before .before .before .args .pieces .now in let i = c .before .before .loop .i in rw (piece-is i p) (piece-size i p (c .before .loop-test .taken))
 
 judge-one-requires : tie.Need-judge-one-requires Inv-loop μ-loop
-judge-one-requires c κs = record { table-is = c .before .before .before .before .before .before .before .before .before .before .before .before .before .before .table .ensures; steps-are = c .before .before .before .before .before .before .before .before .loop .inv .3 }
+judge-one-requires c κs = record { table-is = c .before .before .before .before .before .before .before .before .loop .inv .4; steps-are = c .before .before .before .before .before .before .before .before .loop .inv .3 }
 
 same-length : tie.Need-same-length Inv-loop μ-loop
 same-length c = c .before .before .before .before .before .before .before .before .before .before .before .before .loop .inv .1
@@ -123,6 +122,7 @@ loop-again c =
       c .before .before .before .before .before .before .journal .given ∙ l .inv .1,
       stamps-set (l .last) (l .session .last) _ _ (l .inv .2),
       l .inv .3,
+      l .inv .4,
     )
 
 plain-requires : tie.Need-plain-requires Inv-loop μ-loop

@@ -9,9 +9,6 @@ use borrow.Author.Needs.{needs}
 use Rattle.timing.proofs.table.gap_number.Statement.{statement}
 use Rattle.timing.proofs.table.gap_number.Tie as tie
 
-cast-mode : tie.Need-cast-mode
-cast-mode c = search needs
-
 returns : tie.Need-returns
 unfolding tableGap
 returns c = rw (le-ltb _ _ (c .if1 .taken))
@@ -34,12 +31,6 @@ mul-wide-2 c = search needs
 add-wide-2 : tie.Need-add-wide-2
 add-wide-2 c = search needs
 
-mul-wide-3 : tie.Need-mul-wide-3
-mul-wide-3 c = search needs
-
-add-wide-3 : tie.Need-add-wide-3
-add-wide-3 c = search needs
-
 element-copy-out-wide : tie.Need-element-copy-out-wide
 element-copy-out-wide c = search needs
 
@@ -49,16 +40,14 @@ wide-requires c κs = search needs
 returns-2 : tie.Need-returns-2
 returns-2 c =
     let s = c .before .before .before .before .before .before in
-    let mode-known : s .args .opening .mode < 2 = omega (arith, c .before .before .before .before .if1 .left) in
+    let mode-known : s .args .opening .mode < 3 = omega (arith, c .before .before .before .before .if1 .left) in
     c .wide .ensures
-    ∙ rw (c .before .before .before .place-of .ensures .0, c .before .before .place-of2 .ensures .0, s .pre .0)
-    (table-entry (s .args .opening) (s .args .class) (s .args .first) (s .args .second) mode-known (s .pre .1))
+    ∙ rw (c .before .before .before .place-of .ensures .0, c .before .before .place-of2 .ensures .0, s .pre .0) (table-entry (s .args .opening) (s .args .class) (s .args .first) (s .args .second) mode-known (s .pre .1))
 
 pub gap-number-spec : {M : Type 1} → statement M
 gap-number-spec =
     tie.close
     (tie.spec
-    cast-mode
     returns
     place-of-requires
     place-of-requires-2
@@ -66,8 +55,6 @@ gap-number-spec =
     add-wide
     mul-wide-2
     add-wide-2
-    mul-wide-3
-    add-wide-3
     element-copy-out-wide
     wide-requires
     returns-2)

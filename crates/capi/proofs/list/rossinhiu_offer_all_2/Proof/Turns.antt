@@ -20,6 +20,8 @@ use Rattle.history.specs.Records.{command}
 use Rattle.history.specs.Answers.{recordSize, roomOf}
 use Rattle.timing.proofs.rules.Command as C
 use Rattle.timing.proofs.rules.Command.Laws as C′
+use Rattle.timing.proofs.rules.Opening as Q
+use Rattle.timing.proofs.rules.Opening.Laws as Q′
 use Rattle.timing.proofs.clocks.ControllerCycles as Y
 use Rattle.timing.proofs.clocks.ControllerCycles.Laws as Y′
 use Rattle.timing.specs.declared.clocks.ControllerCycles.{ControllerCycles}
@@ -122,6 +124,9 @@ module _ (s : Session) (p : IsSession s) where
   pub rounded-is : Is (Array Y.the-row 20) (s .terms .rounded) (roundedVal (s .terms .rounded) ∷ [])
   rounded-is = lowered-is (Array Y.the-row 20) roundedVal (array-tells Y.the-row (λ d. Y′.lowered d ∷ []) (Y′.lowers .val-is) 20) (s .terms .rounded) _ (alone-is Y.the-field (Y.the-row .own) (λ x vs i. i) 20 (s .terms .rounded) _ (p .1 .1 .1 .1 .1 .0 .1 .1 .0))
 
+  pub opening-is : Is Q.the-row (s .terms .opening) (Q′.lowered (s .terms .opening) ∷ [])
+  opening-is = lowered-is Q.the-row Q′.lowered (Q′.lowers .val-is) (s .terms .opening) _ (p .1 .1 .1 .1 .1 .0 .1 .1 .1 .0)
+
   pub records-fit : s .progress .records < 2 ^ 64
   records-fit = p .1 .1 .1 .1 .0 .1 .1 .1 .1 .1 .1 .1 .0 .1
 
@@ -174,6 +179,8 @@ module _ (s₀ : Session) (lent : List ℕ) (os : List Offer) (steps : List ℕ)
     pub numbers-are : stamps numbers ≡ session .last
     pub are-numbers : IsNumbers w64 224 numbers
     pub steps-are : steps ≡ gapSteps (session .terms .rounded)
+    -- the table's layer is that of the first state's opening
+    pub same-terms : session .terms ≡ s₀ .terms
 
   abbrev pub Nearer : Turn → Turn → Type 0
   Nearer t u = length os - t .i < length os - u .i
@@ -194,6 +201,7 @@ module _ (s₀ : Session) (lent : List ℕ) (os : List Offer) (steps : List ℕ)
     numbers-are = e;
     are-numbers = k;
     steps-are = h;
+    same-terms = refl;
   }
 
   -- what the function ensures of a burst and the last bytes
@@ -242,4 +250,5 @@ module _ (s₀ : Session) (lent : List ℕ) (os : List Offer) (steps : List ℕ)
           numbers-are = stamps-set (t .numbers) (t .session .last) (one .slot) (one .stamp) (t .numbers-are);
           are-numbers = set-numbers w64 224 (t .numbers) (one .slot) (one .stamp .0) (stamp-fits one k) (t .are-numbers);
           steps-are = t .steps-are;
+          same-terms = t .same-terms;
         }
