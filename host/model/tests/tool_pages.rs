@@ -6,6 +6,7 @@ use std::io::Read;
 use std::os::fd::{FromRawFd, OwnedFd};
 use std::path::Path;
 use std::process::Stdio;
+use std::time::{Duration, Instant};
 
 fn asked(words: &[&str]) -> Ran {
     let words: Vec<&Path> = words.iter().map(Path::new).collect();
@@ -222,13 +223,30 @@ fn terminal() -> (fs::File, OwnedFd) {
     }
 }
 
-/// A long trace from a file, with standard error on a terminal: how far it is, wiped off before the summary. In a file it is not written.
+/// A trace that plays for longer than a second and a half here, whatever the machine, and its size in MiB: what is done in half a second shows
+/// nothing. In a file nothing is shown of how far it is.
+fn long_trace(source: &Path) -> (usize, usize) {
+    let line = "ask ACT 0 0\n";
+    let mut lines = 600_000;
+    loop {
+        fs::write(source, line.repeat(lines)).unwrap();
+        let begun = Instant::now();
+        let quiet = run_over(&mut command(&tool(&["bench"]), &[]), source);
+        assert_eq!(quiet.said(), "");
+        if begun.elapsed() > Duration::from_millis(1500) {
+            return (lines, lines * line.len() >> 20);
+        }
+        lines *= 2;
+    }
+}
+
+/// A long trace from a file, with standard error on a terminal: how far it is, wiped off before the summary.
 #[test]
 fn long_work_shows_how_far_it_is() {
     let _turn = turn();
     let folder = Folder::new();
     let source = folder.at("trace");
-    fs::write(&source, "ask ACT 0 0\n".repeat(600_000)).unwrap();
+    let (lines, size) = long_trace(&source);
     let input = || fs::File::open(&source).unwrap();
     let (mut shown, line) = terminal();
     let mut child = spawn(
@@ -244,13 +262,11 @@ fn long_work_shows_how_far_it_is() {
     let said = String::from_utf8_lossy(&said);
     let (far, rest) = said.split_at(said.find("summary: ").unwrap_or_else(|| panic!("{said}")));
     assert!(
-        far.contains("playing the trace: ") && far.contains(" % of 6 MiB"),
+        far.contains("playing the trace: ") && far.contains(&format!(" % of {size} MiB")),
         "{far}"
     );
     assert!(
-        far.ends_with("\r\x1b[K") && rest.contains("600000 lines"),
+        far.ends_with("\r\x1b[K") && rest.contains(&format!("{lines} lines")),
         "{said}"
     );
-    let quiet = run_over(&mut command(&tool(&["bench"]), &[]), &source);
-    assert_eq!(quiet.said(), "");
 }
