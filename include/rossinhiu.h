@@ -34,7 +34,7 @@ extern "C" {
 #endif
 
 /* The number of the layout of the structs below. Each function is exported under its name and this number. */
-#define ROSSINHIU_AS(name) __asm__(name "_2")
+#define ROSSINHIU_AS(name) __asm__(name "_3")
 
 /* Bytes of a record, and the most records that a journal can have. */
 #define ROSSINHIU_RECORD_SIZE 64
@@ -83,6 +83,7 @@ struct rossinhiu_opening {
     uint8_t ratio;
     uint8_t ranks;
     uint8_t mode;
+    uint8_t edition; /* of the rules: the newest in a live opening, in a restored one what its record names */
     uint32_t client;
 };
 
@@ -144,7 +145,8 @@ struct rossinhiu_sheet rossinhiu_gaps(uint64_t tck, struct rossinhiu_times times
 /*
  * Opens a session for a client and writes its record. `ratio` is 1, 2 or 4 DRAM cycles to a controller cycle, `ranks` 1 or 2, `mode`
  * 0 (16 banks) or 2 (four groups of four). A session that was open ends; a refused opening leaves it in force. Mode 1, eight groups of
- * two, stands in old journals alone: a session restored with it goes on, and none is opened.
+ * two, stands in old journals alone: a session restored with it goes on, and none is opened. The session is of the newest edition of
+ * the rules, 1, which byte 48 of its record says; one that is restored goes on under the edition that its own record names.
  * number: 10, 9, or 0.
  */
 struct rossinhiu_opened {
@@ -255,7 +257,8 @@ struct rossinhiu_standing rossinhiu_status(struct rossinhiu_session session) ROS
  * Hand in exactly the bytes that were stored, and no byte behind them: records left behind an earlier cut can be good records, and
  * they would be somebody else's timings.
  * number: 9 if there are more than 16,777,216 whole records; else 11 if a record is bad, with the lowest bad record's number in
- * `record`; else 0. With 9 and 11 the state is the fresh one: nothing of the journal is in force.
+ * `record`; else 0. With 9 and 11 the state is the fresh one: nothing of the journal is in force. An opening of an edition that this
+ * archive does not know is a bad record: a later one wrote it.
  */
 struct rossinhiu_restored {
     struct rossinhiu_session session; /* with 0 go on from it, once the bytes are on the disk; with 9 and 11 it is the fresh state, and

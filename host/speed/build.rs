@@ -20,6 +20,19 @@ const FUNCTIONS: [&str; 13] = [
     "console",
 ];
 
+/// The layouts whose structs are those of this one, but for bytes between fields.
+const LAYOUTS: [u32; 2] = [2, 3];
+
+/// Which of them an archive has, by its names.
+fn layout_of(archive: &str) -> u32 {
+    let bytes = std::fs::read(archive).expect("an archive that can be read");
+    let has = |name: &str| bytes.windows(name.len()).any(|w| w == name.as_bytes());
+    let mut layouts = LAYOUTS.into_iter();
+    layouts
+        .find(|layout| has(&format!("rossinhiu_fresh_{layout}\0")))
+        .expect("an archive of a layout that is read here")
+}
+
 fn variable(name: &str) -> Option<String> {
     println!("cargo:rerun-if-env-changed={name}");
     std::env::var(name).ok().filter(|value| !value.is_empty())
@@ -45,9 +58,10 @@ fn main() {
     println!("cargo:rerun-if-changed={archive}");
     let folder = std::env::var("OUT_DIR").unwrap();
     let mut command = Command::new(objcopy());
+    let layout = layout_of(&archive);
     for name in FUNCTIONS {
-        let name = format!("rossinhiu_{name}_2");
-        command.arg(format!("--redefine-sym={name}={name}_before"));
+        let name = format!("rossinhiu_{name}");
+        command.arg(format!("--redefine-sym={name}_{layout}={name}_before"));
     }
     command.arg(&archive);
     command.arg(Path::new(&folder).join("libcapi_before.a"));

@@ -15,7 +15,7 @@ use timing::clocks::ControllerCycles;
 use timing::table::table;
 
 #[no_mangle]
-pub extern "C" fn rossinhiu_offer_all_2(
+pub extern "C" fn rossinhiu_offer_all_3(
     mut session: Session,
     journal: &mut [u8],
     offers: &[Offer],

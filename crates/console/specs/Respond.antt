@@ -7,6 +7,7 @@ use lib.Dec.{leb, ltb}
 use lib.ListN.{length, take, drop, set, getD}
 use Rattle.timing.specs.declared.clocks.DramCycles.{DramCycles}
 use Rattle.timing.specs.Clocks.{cycles}
+use Rattle.timing.specs.Editions.{newest}
 use Rattle.timing.specs.Earliest.{Settings}
 use Rattle.history.specs.Answers.{Reply, Verdict, replyOf, roomOf}
 use Rattle.session.specs.declared.state.Session.{Session}
@@ -73,7 +74,7 @@ gapFrom n = record { 0 = n % 65536 }
 abbrev pub settingsOf : List ℕ → Settings
 settingsOf ns =
     record {
-      opening = record { ratio = at ns 0; ranks = at ns 1; mode = at ns 2; client = at ns 3 % 4294967296 };
+      opening = record { ratio = at ns 0; ranks = at ns 1; mode = at ns 2; edition = newest; client = at ns 3 % 4294967296 };
       gaps = eachFrom gapFrom 20 4 ns;
     }
 

@@ -9,7 +9,7 @@ use Rattle.journal.specs.declared.records.Offer.{Offer}
 use Rattle.statements.specs.Calls.{Does, calls, replied, by-call}
 use Rattle.statements.specs.Bursts.{over, Burst, inARow, Bursts, InARow, none-left, one-refused, one-accepted}
 use Rattle.statements.proofs.BurstLaws.{accepted-reply, burst-is-offers}
-use Rattle.demands.specs.Runs.{Event, Run, starts, moves, fails}
+use Rattle.demands.specs.Runs.{Event, Run, starts, resumes, moves, fails}
 use Rattle.demands.specs.Reached.{Reached, by-call as reached-by-call}
 use Rattle.demands.specs.Bursts as bursts
 use Rattle.demands.specs.Bursts.{offerCall, acceptedAt, burstEvents, BurstRun}
@@ -27,6 +27,7 @@ row-runs {room} {es} {first = first} run (one-accepted {o = o} {os = os} {s = s}
 -- A RUN WITH BURSTS IS A RUN, of the same events, state and journal
 pub without-bursts : {room : ℕ} {es : List Event} {s : Session} {first j : List ℕ} → BurstRun room es s first j → Run room es s first j
 without-bursts (bursts.starts j e) = starts j e
+without-bursts (bursts.resumes j e small k at told) = resumes j e small k at told
 without-bursts (bursts.moves run does) = moves (without-bursts run) does
 without-bursts (bursts.bursts run burst) = row-runs (without-bursts run) (burst-is-offers burst)
 without-bursts (bursts.fails run k low after same kept number at told) = fails (without-bursts run) k low after same kept number at told

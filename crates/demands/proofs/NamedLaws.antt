@@ -1,14 +1,15 @@
 -- What the statements allow on the named runs: one list of answers each.
 use mathlib.Core.Path.{_≡_, refl, _∙_, ap, subst}
-use mathlib.Core.Logic.{_≢_}
+use mathlib.Core.Logic.{_≢_, _⊎_, ⊎-elim}
 use mathlib.Core.List.{List, [], _∷_}
-use Prim.Native.Nat.{ℕ}
+use Prim.Native.Nat.{ℕ, _*_, _/_, _≤_}
 use native.Mathlib.Omega.{arith}
-use lib.ListN.{length, getD}
+use lib.Dec.{lit≤}
+use lib.ListN.{length, getD, take}
 use Rattle.timing.specs.Rules.{rules, covers, matching}
 use Rattle.timing.specs.Earliest.{reach, floor, pairAsks, acts, fourAsks, asks, latest, earliest}
 use Rattle.history.specs.Records.{opening, History, standing}
-use Rattle.history.specs.Answers.{roomOf, nextOf, Reply, Status, firstOf, fits, follows, openOn, offerOn, earliestOn, takeBackOn, statusOn}
+use Rattle.history.specs.Answers.{roomOf, nextOf, Reply, Status, firstOf, fits, follows, openOn, offerOn, earliestOn, takeBackOn, statusOn, recordSize}
 use Rattle.history.specs.Struck.{open-session}
 use Rattle.session.specs.declared.state.Session.{Session}
 use Rattle.session.specs.State.{freshState}
@@ -19,9 +20,10 @@ use Rattle.statements.specs.Statements.{Restores}
 use Rattle.statements.proofs.KeepsLaws.{fresh-rep}
 use Rattle.statements.specs.Calls.{Outcome, Move, asks-status, Heard, replied, stated, handed, Does}
 use Rattle.demands.specs.Runs.{Plays, ends, plays}
-use Rattle.demands.specs.Named.{blank, client7, client9, shortMoves, shortAnswers, windowMoves, windowAnswers, twoOpenings, old, oldJournal, oldLent, oldMoves, oldAnswers}
+use Rattle.demands.specs.Named.{blank, client7, client9, shortMoves, shortAnswers, windowMoves, windowAnswers, twoOpenings, old, oldJournal, oldLent, oldMoves, oldAnswers, mixedMoves, mixedAnswers, askedAgain, answersAgain}
 use Rattle.demands.proofs.MoveLaws.{answerOn, verdictOn, does-on}
-use Rattle.demands.proofs.RanLaws.{Holding, does-holds}
+use Rattle.demands.proofs.RanLaws.{Holding, does-holds, cut-holds, cut-number}
+use Rattle.demands.proofs.WrittenLaws.{older}
 
 -- the answers of moves on a history
 unfoldable answersOn : ℕ → History → List ℕ → List Move → List Heard
@@ -39,6 +41,16 @@ played room h {j = j} {ms = ms} k (plays {after = after} {m = m} {ms = more} {xs
     let rest = played room (nextOf h v) (does-holds room h k d) p in
     ap (λ (x : Heard). x ∷ xs) answer
     ∙ ap (λ (ys : List Heard). answerOn room h m j ∷ ys) (rest ∙ ap (λ (b : List ℕ). answersOn room (nextOf h v) b more) bytes)
+
+-- the history that they leave
+unfoldable leftOn : ℕ → History → List Move → History
+leftOn room h [] = h
+leftOn room h (m ∷ ms) = leftOn room (nextOf h (verdictOn room h m)) ms
+
+played-holds : (room : ℕ) (h : History) {s last : Session} {first j after : List ℕ} {ms : List Move} {xs : List Heard} → Holding room h s first j → Plays s j ms xs last after → Holding room (leftOn room h ms) last first after
+unfolding leftOn
+played-holds room h k ends = k
+played-holds room h k (plays {m = m} d p) = played-holds room (nextOf h (verdictOn room h m)) (does-holds room h k d) p
 
 from-blank : {last : Session} {after : List ℕ} {ms : List Move} {xs : List Heard} → Plays freshState blank ms xs last after → xs ≡ answersOn 10 [] blank ms
 unfolding written
@@ -96,12 +108,38 @@ restored-old : restoreOf oldJournal ≡ restored (opening old ∷ [])
 unfolding firstOf fits follows standing le gapBytes bytesOf value gapsFrom sameBytes recordIn written pieces replay restoreOf oldJournal
 restored-old = refl
 
+old-holds : {number at : ℕ} {next : Session} → Restores oldJournal number at next → Holding 11 (opening old ∷ []) next oldLent oldLent
+unfolding oldJournal le gapBytes bytesOf written
+old-holds {next = next} told = record { rep = subst (λ (r : Restored). Rep next (historyOf r)) restored-old (told .state); room-is = refl; begins = refl }
+
 pub old-run : {number at : ℕ} {next last : Session} {after : List ℕ} {xs : List Heard} → Restores oldJournal number at next → Plays next oldLent oldMoves xs last after
     → (number ≡ 0) × (xs ≡ oldAnswers)
-unfolding rules covers matching reach floor pairAsks acts fourAsks asks latest earliest standing firstOf openOn offerOn earliestOn takeBackOn statusOn answersOn oldMoves oldAnswers oldJournal le gapBytes bytesOf written
-old-run {next = next} told p =
-    let rep : Rep next (opening old ∷ []) = subst (λ (r : Restored). Rep next (historyOf r)) restored-old (told .state) in
-    (told .answer ∙ ap restoreNumber restored-old, played 11 (opening old ∷ []) {first = oldLent} (record { rep = rep; room-is = refl; begins = refl }) p ∙ computed)
+unfolding rules covers matching reach floor pairAsks acts fourAsks asks latest earliest standing firstOf openOn offerOn earliestOn takeBackOn statusOn answersOn oldMoves oldAnswers oldJournal le gapBytes bytesOf
+old-run told p = (told .answer ∙ ap restoreNumber restored-old, played 11 (opening old ∷ []) (old-holds told) p ∙ computed)
   where
     computed : answersOn 11 (opening old ∷ []) oldLent oldMoves ≡ oldAnswers
     computed = refl
+
+-- AN OLD SESSION, A NEW ONE BEHIND IT, A FAILURE IN BETWEEN: each goes by the edition of its own opening, before the failure and after it
+mixedHistory : History
+mixedHistory = leftOn 11 (opening old ∷ []) mixedMoves
+
+pub mixed-run : {number at number′ at′ : ℕ} {s last next final : Session} {after later : List ℕ} {xs ys : List Heard} (left : ℕ) → (left ≡ 2) ⊎ (left ≡ 4)
+    → Restores oldJournal number at s → Plays s oldLent mixedMoves xs last after → Restores (take (recordSize * left) after) number′ at′ next → Plays next after askedAgain ys final later
+    → (xs ≡ mixedAnswers) × (number′ ≡ 0) × (ys ≡ answersAgain left)
+unfolding rules covers matching reach floor pairAsks acts fourAsks asks latest earliest standing firstOf openOn offerOn earliestOn takeBackOn statusOn answersOn leftOn mixedMoves mixedAnswers askedAgain answersAgain oldJournal le gapBytes bytesOf mixedHistory
+mixed-run {number′ = number′} {at′ = at′} {last = last} {next = next} {after = after} {xs = xs} {ys = ys} left which told p again q =
+    ⊎-elim (λ e. by left e (lit≤ tt) again (rw e refl)) (λ e. by left e (lit≤ tt) again (rw e refl)) which
+  where
+    is : Holding 11 mixedHistory last oldLent after
+    is = played-holds 11 (opening old ∷ []) (old-holds told) p
+
+    first : xs ≡ mixedAnswers
+    first = played 11 (opening old ∷ []) (old-holds told) p ∙ refl
+
+    by : {n : ℕ} (left : ℕ) → left ≡ n → n ≤ 4 → Restores (take (recordSize * left) after) number′ at′ next → answersOn 11 (older (recordSize * left / recordSize) mixedHistory) after askedAgain ≡ answersAgain left
+        → (xs ≡ mixedAnswers) × (number′ ≡ 0) × (ys ≡ answersAgain left)
+    by left e low again computed =
+        let inside : recordSize * left ≤ recordSize * length mixedHistory = omega (arith, e, low) in
+        let holds = cut-holds 11 mixedHistory last next oldLent after after (recordSize * left) is inside refl number′ at′ again (is .room-is) in
+        (first, cut-number 11 mixedHistory last next oldLent after after (recordSize * left) is inside refl number′ at′ again .0, played 11 (older (recordSize * left / recordSize) mixedHistory) holds q ∙ computed)

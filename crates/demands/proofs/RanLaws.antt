@@ -1,30 +1,34 @@
 -- Demand 3: what any run has come to, and that it goes on after a mains failure as it did before.
 use mathlib.Core.Path.{_≡_, refl, sym, _∙_, ap, subst}
-use mathlib.Core.Bool.{Bool, true, false, cond}
-use mathlib.Core.List.{List, [], _∷_, _++_}
+use mathlib.Core.Bool.{Bool, true, false, cond, _&&_}
+use mathlib.Core.List.{List, [], _∷_, _++_, map}
 use Prim.Native.Nat.{ℕ, suc, _+_, _-_, _*_, _/_, _≤_, _<_, min}
 use native.Mathlib.Omega.{arith}
-use lib.Dec.{leb, eqb}
-use lib.ListN.{length, take, drop, length-append, length-drop, take-append-drop}
+use lib.Dec.{T, leb, eqb}
+use lib.ListN.{length, take, drop, length-append, length-take, length-drop, take-append-drop}
 use lib.Seq.{drop-drop, take-append-le, drop-append-le, take-take}
 use borrow.Author.Tests.{leb-true, leb-false, le-leb, eqb-true, eqb-false}
 use Rattle.history.specs.Records.{History, Current, closed, session, standing}
-use Rattle.history.specs.Answers.{maxRecords, roomOf, Verdict, refused, accepted, replyOf, nextOf, openOn, offerOn, earliestOn, takeBackOn, statusOn, recordSize}
-use Rattle.history.specs.Struck.{Call, open-session, offer, take-back, Answered, unrefused, recordsOf, recordsIn, verdict, LeadsTo, nothing-yet, then}
+use Rattle.history.specs.Answers.{maxRecords, roomOf, Verdict, refused, accepted, plain, replyOf, nextOf, openOn, offerOn, earliestOn, takeBackOn, statusOn, fits, follows, fine, recordSize}
+use Rattle.history.specs.Struck as led
+use Rattle.history.specs.Struck.{Call, open-session, offer, take-back, Answered, callOf, unrefused, recordsOf, recordsIn, verdict, LeadsTo, nothing-yet, then}
+use Rattle.timing.proofs.Truth.{and-left, and-right, true-is}
 use Rattle.history.proofs.AnswerLaws.{Passed, call-passed}
 use Rattle.history.proofs.StandingLaws.{Below, number-below}
 use Rattle.history.proofs.CurrentLaws.{leads-kept, leads-current}
 use Rattle.session.specs.declared.state.Session.{Session}
 use Rattle.session.specs.State.{freshState}
 use Rattle.journal.specs.Bytes.{bytesOf}
-use Rattle.journal.specs.Restore.{written, putAt, bytesAfter, restored, restoreNumber, restoreAt, historyOf, restoreOf, Part, partOf, stretchCase, stretchOf}
+use Rattle.journal.specs.Restore.{written, putAt, bytesAfter, Restored, tooLong, badAt, restored, restoreNumber, restoreAt, historyOf, restoreOf, Part, partOf, stretchCase, stretchOf}
 use Rattle.statements.specs.Rep.{AllSized, Rep}
+use Rattle.statements.specs.Exact.{restoreIn, restoredNumber, restoredAt, restoredState}
 use Rattle.statements.specs.Statements.{Restores}
+use Rattle.statements.proofs.RestoreMeans.{take-small, restore-told}
 use Rattle.statements.proofs.KeepsLaws.{fresh-rep}
 use Rattle.statements.specs.Calls.{Move, calls, asks-earliest, asks-status, asks-stretch, Heard, handed, Does}
-use Rattle.demands.specs.Runs.{Event, rightAfter, numberIn, noted, lasting, Run, starts, moves, fails, answerAt, answerBy, standsAt, ends, plays, PutRecord, putAll, GoesOnAs, GoesOnFrom}
+use Rattle.demands.specs.Runs.{Event, found, rightAfter, numberIn, noted, lasting, foundIn, Run, starts, resumes, moves, fails, answerAt, answerBy, standsAt, ends, plays, PutRecord, putAll, GoesOnAs, GoesOnFrom}
 use Rattle.demands.proofs.MoveLaws.{answerOn, verdictOn, does-on}
-use Rattle.demands.proofs.WrittenLaws.{length-written, put-behind, older, older-all, older-less, older-length, written-older, restore-cut}
+use Rattle.demands.proofs.WrittenLaws.{length-written, put-behind, older, older-all, older-less, older-length, written-older, restore-cut, restored-bytes}
 
 -- a state and a journal that hold a history: the journal begins with its bytes, and behind them is as it was first
 pub record Holding (room : ℕ) (h : History) (s : Session) (first j : List ℕ) : Type 0 where
@@ -72,27 +76,29 @@ wound-step : (h : History) (v : Verdict) (n : ℕ) → n < length (nextOf h v) �
 wound-step h (refused r) n l = (omega arith, refl)
 wound-step h (accepted r e) n l = let less : n ≤ length h = omega arith in (less, older-less e h n less)
 
+right-after : (a : Answered) (ps : List Answered) (h : History) (v : Verdict) → LeadsTo (a ∷ ps) (nextOf h v) → (n : ℕ) → n ≤ length (nextOf h v)
+    → (n ≤ length h → LeadsTo (rightAfter n ps) (older n h)) → LeadsTo (rightAfter n (a ∷ ps)) (older n (nextOf h v))
+unfolding rightAfter
+right-after a ps h v all n l on = go (leb (recordsIn (a ∷ ps)) n) refl
+  where
+    count : length (nextOf h v) ≡ recordsIn (a ∷ ps)
+    count = leads-kept all .count
+
+    go : (t : Bool) → leb (recordsIn (a ∷ ps)) n ≡ t → LeadsTo (cond t (a ∷ ps) (rightAfter n ps)) (older n (nextOf h v))
+    go true e =
+        let now : n ≡ length (nextOf h v) = omega (arith, leb-true (recordsIn (a ∷ ps)) n e, count, l) in
+        subst (LeadsTo (a ∷ ps)) (sym (older-all (nextOf h v) n now)) all
+    go false e =
+        let w = wound-step h v n (omega (arith, leb-false (recordsIn (a ∷ ps)) n e, count)) in
+        subst (LeadsTo (rightAfter n ps)) (sym (w .1)) (on (w .0))
+
 pub leads-right-after : {ps : List Answered} {h : History} → LeadsTo ps h → (n : ℕ) → n ≤ length h → LeadsTo (rightAfter n ps) (older n h)
 unfolding rightAfter
 leads-right-after nothing-yet n l = let none : n ≡ 0 = omega arith in rw none nothing-yet
-leads-right-after (then {ps = ps} {h = h} before room c) n l = go (leb (recordsIn (a ∷ ps)) n) refl (λ less. leads-right-after before n less)
-  where
-    a : Answered
-    a = record { call = c; number = replyOf (verdict room h c) .number }
-
-    v : Verdict
-    v = verdict room h c
-
-    count : length (nextOf h v) ≡ recordsIn (a ∷ ps)
-    count = leads-kept (then before room c) .count
-
-    go : (t : Bool) → leb (recordsIn (a ∷ ps)) n ≡ t → (n ≤ length h → LeadsTo (rightAfter n ps) (older n h)) → LeadsTo (cond t (a ∷ ps) (rightAfter n ps)) (older n (nextOf h v))
-    go true e on =
-        let all : n ≡ length (nextOf h v) = omega (arith, leb-true (recordsIn (a ∷ ps)) n e, count, l) in
-        subst (LeadsTo (a ∷ ps)) (sym (older-all (nextOf h v) n all)) (then before room c)
-    go false e on =
-        let w = wound-step h v n (omega (arith, leb-false (recordsIn (a ∷ ps)) n e, count)) in
-        subst (LeadsTo (rightAfter n ps)) (sym (w .1)) (on (w .0))
+leads-right-after (led.found {ps = ps} {h = h} before r f g) n l =
+    right-after (record { call = callOf r; number = 0 }) ps h (accepted (plain 0) r) (led.found before r f g) n l (λ less. leads-right-after before n less)
+leads-right-after (then {ps = ps} {h = h} before room c) n l =
+    right-after (record { call = c; number = replyOf (verdict room h c) .number }) ps h (verdict room h c) (then before room c) n l (λ less. leads-right-after before n less)
 
 -- a restore of the first k bytes gives the first k / 64 records
 module _ (room : ℕ) (h : History) (s next : Session) (first j after : List ℕ) (k : ℕ) (is : Holding room h s first j) (l : k ≤ recordSize * length h)
@@ -137,9 +143,58 @@ noted-told (asks-earliest kind rank bank) room ps h j a told is = told
 noted-told asks-status room ps h j a told is = told
 noted-told asks-stretch room ps h j a told is = told
 
+-- THE RECORDS THAT A JOURNAL HELD at the start are calls that were accepted
+pub leads-found : (h : History) → T (fine h) → LeadsTo (lasting (map found h)) h
+unfolding lasting fine
+leads-found [] f = nothing-yet
+leads-found (r ∷ h) f =
+    let both = and-left (fits (standing h) r && follows (standing h) r) (fine h) f in
+    led.found (leads-found h (and-right (fits (standing h) r && follows (standing h) r) (fine h) f)) r (true-is (fits (standing h) r) (and-left (fits (standing h) r) (follows (standing h) r) both))
+    (true-is (follows (standing h) r) (and-right (fits (standing h) r) (follows (standing h) r) both))
+
+found-count : (h : History) → recordsIn (lasting (map found h)) ≡ length h
+unfolding lasting unrefused
+found-count [] = refl
+found-count (r ∷ h) = ap suc (found-count h)
+
+stands-found : (h : History) (n : ℕ) → n ≤ length h → standsAt n (map found h) ≡ map found (older n h)
+unfolding standsAt
+stands-found [] n l = let none : n ≡ 0 = omega arith in rw none
+stands-found (r ∷ h) n l = go (eqb (recordsIn (lasting (map found (r ∷ h)))) n) refl (stands-found h n)
+  where
+    count : recordsIn (lasting (map found (r ∷ h))) ≡ suc (length h)
+    count = found-count (r ∷ h)
+
+    go : (t : Bool) → eqb (recordsIn (lasting (map found (r ∷ h)))) n ≡ t → (n ≤ length h → standsAt n (map found h) ≡ map found (older n h))
+        → cond t (map found (r ∷ h)) (standsAt n (map found h)) ≡ map found (older n (r ∷ h))
+    go true e on = ap (map found) (sym (older-all (r ∷ h) n (omega (arith, eqb-true (recordsIn (lasting (map found (r ∷ h)))) n e, count))))
+    go false e on = let less : n ≤ length h = omega (arith, eqb-false (recordsIn (lasting (map found (r ∷ h)))) n e, count, l) in on less ∙ ap (map found) (sym (older-less r h n less))
+
+restored-of : (r : Restored) → restoreNumber r ≡ 0 → r ≡ restored (historyOf r)
+restored-of tooLong e = absurd (omega (arith, e))
+restored-of (badAt n) e = absurd (omega (arith, e))
+restored-of (restored h) e = refl
+
+module _ (room : ℕ) (j : List ℕ) (room-is : roomOf (length j) ≡ room) (k at : ℕ) (s : Session) (told : Restores (take k j) 0 at s) where
+  abbrev pub held : History
+  held = historyOf (restoreOf (take k j))
+
+  pub found-holds : Holding room held s j j
+  found-holds =
+      let w = restored-bytes (take k j) held (restored-of (restoreOf (take k j)) (sym (told .answer))) in
+      let size = length-take k j in
+      let front : take (recordSize * length held) j ≡ written held = sym (take-take (recordSize * length held) k j (omega (arith, w .0, size))) ∙ sym (w .1) in
+      record {
+        rep = told .state;
+        room-is = room-is;
+        begins = sym (take-append-drop (recordSize * length held) j) ∙ ap (λ (z : List ℕ). z ++ drop (recordSize * length held) j) front;
+      }
+
 unfoldable pub came : {room : ℕ} {es : List Event} {s : Session} {first j : List ℕ} → Run room es s first j → Came room es s first j
 unfolding lasting written
 came (starts j room-is) = record { records = []; told = nothing-yet; holding = record { rep = fresh-rep; room-is = room-is; begins = refl } }
+came {room} (resumes {s = s} j room-is small k at told) =
+    record { records = historyOf (restoreOf (take k j)); told = leads-found (historyOf (restoreOf (take k j))) (told .state .isFine); holding = found-holds room j room-is k at s told }
 came {room} (moves {es = es} {j = j} {m = m} {a = a} before d) =
     let w = came before in
     let is : a ≡ answerOn room (w .records) m j = does-on d (w .records) (w .holding .rep) .answer ∙ ap (λ (n : ℕ). answerOn n (w .records) m j) (w .holding .room-is) in
@@ -301,6 +356,27 @@ module _ {room : ℕ} where
   moment (starts j room-is) n l =
       let none : n ≡ 0 = omega arith in
       rw none (record { state = freshState; begun = j; journal = j; run = starts j room-is; holding = came (starts j room-is) .holding })
+  moment (resumes {s = s} j room-is small k at told) n l =
+      let is = found-holds room j room-is k at s told in
+      let h = held room j room-is k at s told in
+      let m = recordSize * n in
+      let whole : m / recordSize ≡ n = omega arith in
+      let cut : restoreOf (take m j) ≡ restored (older n h) =
+      ap (λ (z : List ℕ). restoreOf (take m z)) (is .begins)
+      ∙ restore-cut h (is .rep .sized) (is .rep .isFine) (is .rep .few) (drop (recordSize * length h) j) m (omega (arith, l))
+      ∙ ap (λ (i : ℕ). restored (older i h)) whole in
+      let v = restoreIn (take m j) in
+      let again = restore-told (take m j) (restoredNumber v) (restoredAt v) (restoredState v) (take-small m j small) (record { answer = refl; beside = refl; state = refl }) in
+      let zero : restoredNumber v ≡ 0 = again .answer ∙ ap restoreNumber cut in
+      let told′ : Restores (take m j) 0 (restoredAt v) (restoredState v) = subst (λ (i : ℕ). Restores (take m j) i (restoredAt v) (restoredState v)) zero again in
+      let events : foundIn (take m j) ≡ standsAt n (map found h) = ap (λ (r : Restored). map found (historyOf r)) cut ∙ sym (stands-found h n l) in
+      record {
+        state = restoredState v;
+        begun = j;
+        journal = j;
+        run = subst (λ (es : List Event). Run room es (restoredState v) j j) events (resumes j room-is small m (restoredAt v) told′);
+        holding = subst (λ (g : History). Holding room g (restoredState v) j j) (ap historyOf cut) (found-holds room j room-is m (restoredAt v) (restoredState v) told′);
+      }
   moment (moves {es = es} {m = m} before d) n l =
       now-or-before (moves before d) n l
       (λ less.

@@ -1,21 +1,22 @@
 -- The bytes of a history, and what a restore of any first bytes of them gives.
 use mathlib.Core.Path.{_≡_, refl, sym, _∙_, ap}
-use mathlib.Core.Bool.{Bool, true, false, _&&_}
-use mathlib.Core.List.{List, [], _∷_, _++_, append-nil}
+use mathlib.Core.Bool.{Bool, true, false, cond, _&&_}
+use mathlib.Core.List.{List, [], _∷_, _++_, append-nil, append-assoc}
 use Prim.Native.Nat.{ℕ, zero, suc, _+_, _-_, _*_, _/_, _≤_, _<_}
 use native.Mathlib.Omega.{arith}
-use lib.Dec.{T, leb}
+use lib.Dec.{T, leb, ltb}
 use lib.ListN.{length, take, drop, length-append, length-drop, take-append-drop}
-use lib.Seq.{take-at, drop-append-add, take-append-le, take-all, take-take, length-take-le}
+use lib.Seq.{take-at, take-add, drop-append-add, take-append-le, take-all, take-take, length-take-le}
 use borrow.Author.Tests.{leb-true, leb-false, le-ltb}
 use Rattle.timing.proofs.Truth.{and-left, and-right, true-is}
 use Rattle.history.specs.Records.{Record, History, standing}
 use Rattle.history.specs.Answers.{maxRecords, fits, follows, fine, recordSize}
 use Rattle.journal.specs.Bytes.{bytesOf, Sized, Held, holding, nothing}
-use Rattle.journal.specs.Restore.{written, putAt, pieces, taken, restored, orBad, replay, restoreOf, historyOf}
-use Rattle.journal.proofs.Codec.{bytes-size, read-written}
+use Rattle.journal.specs.Restore.{written, putAt, pieces, wholeRecords, taken, tooLong, restored, orBad, replay, restoreOf, historyOf}
+use Rattle.journal.proofs.Codec.{bytes-size, read-written, written-read}
 use Rattle.journal.proofs.PieceLaws.{pieces-join}
 use Rattle.statements.specs.Rep.{AllSized}
+use Rattle.statements.proofs.RestoreMeans.{taken-passes}
 
 pub length-written : (h : History) → AllSized h → length (written h) ≡ recordSize * length h
 unfolding written
@@ -123,3 +124,35 @@ restore-cut h sized f few rest k l =
     let short : length loose < recordSize = (let left = length-drop (recordSize * n) (take k (written h)) in omega (arith, left, long)) in
     ap restoreOf (cut ∙ sym (take-append-drop (recordSize * n) (take k (written h))) ∙ ap (λ (z : List ℕ). z ++ loose) front)
     ∙ restore-records (older n h) (sized-older (length h - n) h sized) (fine-older (length h - n) h f) (omega (arith, older-length h n inside, few)) loose short
+
+-- AND BACK: bytes that restore begin with the bytes of what they restore to
+replay-bytes : (n : ℕ) (bytes : List ℕ) (g h : History) → replay (pieces n bytes) g ≡ restored h → (length h ≡ length g + n) × (written h ≡ written g ++ take (recordSize * n) bytes)
+unfolding replay pieces written
+replay-bytes zero bytes g h e = let same : g ≡ h = ap historyOf e in rw (← same) (omega arith, sym (append-nil (written g)))
+replay-bytes (suc n) bytes g h e = go (taken g b) refl (λ r. replay-bytes n (drop recordSize bytes) (r ∷ g) h) e
+  where
+    b : List ℕ
+    b = take recordSize bytes
+
+    parts : take (recordSize * suc n) bytes ≡ b ++ take (recordSize * n) (drop recordSize bytes)
+    parts = let more : recordSize * suc n ≡ recordSize + recordSize * n = omega arith in ap (λ (k : ℕ). take k bytes) more ∙ take-add recordSize (recordSize * n) bytes
+
+    go : (k : Held) → taken g b ≡ k
+        → ((r : Record) → replay (pieces n (drop recordSize bytes)) (r ∷ g) ≡ restored h → (length h ≡ length (r ∷ g) + n) × (written h ≡ written (r ∷ g) ++ take (recordSize * n) (drop recordSize bytes)))
+        → orBad (length g) k (λ r. replay (pieces n (drop recordSize bytes)) (r ∷ g)) ≡ restored h → (length h ≡ length g + suc n) × (written h ≡ written g ++ take (recordSize * suc n) bytes)
+    go nothing is on e = absurd (let z : _≡_ {A = ℕ} 0 1 = cc in omega arith)
+    go (holding r) is on e =
+        let w = on r e in
+        let own : b ≡ bytesOf r = written-read b r (taken-passes g b r is .0) in
+        (omega (arith, w .0), w .1 ∙ append-assoc (written g) (bytesOf r) (take (recordSize * n) (drop recordSize bytes)) ∙ ap (λ (x : List ℕ). written g ++ (x ++ take (recordSize * n) (drop recordSize bytes))) (sym own) ∙ ap (λ (x : List ℕ). written g ++ x) (sym parts))
+
+pub restored-bytes : (bytes : List ℕ) (h : History) → restoreOf bytes ≡ restored h → (length h ≡ length bytes / recordSize) × (written h ≡ take (recordSize * length h) bytes)
+unfolding restoreOf written
+restored-bytes bytes h e = go (ltb maxRecords (length bytes / recordSize)) e
+  where
+    go : (t : Bool) → cond t tooLong (replay (wholeRecords bytes) []) ≡ restored h → (length h ≡ length bytes / recordSize) × (written h ≡ take (recordSize * length h) bytes)
+    go true e = absurd (let z : _≡_ {A = ℕ} 0 1 = cc in omega arith)
+    go false e =
+        let w = replay-bytes (length bytes / recordSize) bytes [] h e in
+        let count : length h ≡ length bytes / recordSize = omega (arith, w .0) in
+        (count, rw count (w .1))

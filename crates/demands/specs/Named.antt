@@ -1,9 +1,12 @@
 -- Named runs from the fresh state, and the answers that they must get: where a lazy program is caught.
 use mathlib.Core.List.{List, [], _∷_, _++_}
 use Prim.Native.Nat.{ℕ}
+use mathlib.Core.Bool.{cond}
+use lib.Dec.{eqb}
 use Rattle.timing.specs.Earliest.{Settings}
 use Rattle.history.specs.Records.{opening}
-use Rattle.history.specs.Cases.{settings, gapsA, changed, gaps, reply}
+use Rattle.timing.specs.Editions.{newest}
+use Rattle.history.specs.Cases.{settings, settingsIn, gapsA, changed, gaps, reply}
 use Rattle.history.specs.Struck.{open-session, offer, take-back}
 use Rattle.journal.specs.Bytes.{zeros, bytesOf}
 use Rattle.statements.specs.Calls.{Move, calls, asks-earliest, asks-status, Heard, replied, stated}
@@ -14,10 +17,10 @@ blank = zeros 640
 
 -- settings A of client 7, with tFAW 40; and client 9's
 abbrev pub client7 : Settings
-client7 = settings 4 0 (changed 20 40 gapsA)
+client7 = settingsIn newest 4 0 (changed 20 40 gapsA)
 
 abbrev pub client9 : Settings
-client9 = record { opening = record { ratio = 1; ranks = 2; mode = 2; client = 9 }; gaps = gaps gapsA }
+client9 = record { opening = record { ratio = 1; ranks = 2; mode = 2; edition = newest; client = 9 }; gaps = gaps gapsA }
 
 -- one ACT of bank 0, and what may follow it
 unfoldable pub shortMoves : List Move
@@ -82,7 +85,7 @@ windowAnswers =
 unfoldable pub twoOpenings : List ℕ
 twoOpenings = bytesOf (opening client7) ++ bytesOf (opening client9)
 
--- a journal whose opening is of mode 1, and what follows live: groups of two, and no such opening any more
+-- a journal whose opening is of mode 1 and edition 0, and what follows live: groups of two, and no such opening any more
 abbrev pub old : Settings
 old = settings 1 1 gapsA
 
@@ -110,3 +113,35 @@ oldAnswers =
     replied (reply 10 0 0) ∷
     replied (reply 0 16 7) ∷
     []
+
+-- behind that journal its own session goes on, then client 9 opens, in the newest edition: PREPB, and the earliest REFAB
+unfoldable pub mixedMoves : List Move
+mixedMoves =
+    calls (offer 4 0 3 10) ∷
+    asks-earliest 6 0 0 ∷
+    calls (open-session client9) ∷
+    calls (offer 4 0 3 10) ∷
+    asks-earliest 6 0 0 ∷
+    []
+
+unfoldable pub mixedAnswers : List Heard
+mixedAnswers =
+    replied (reply 0 10 0) ∷
+    replied (reply 0 11 0) ∷
+    replied (reply 0 0 0) ∷
+    replied (reply 0 10 0) ∷
+    replied (reply 0 31 15) ∷
+    []
+
+-- the mains fail, and as many records are left: the old session with its edition, or the new one with its own
+unfoldable pub askedAgain : List Move
+askedAgain = asks-earliest 6 0 0 ∷ asks-status ∷ []
+
+abbrev pub again : ℕ → ℕ → ℕ → ℕ → ℕ → List Heard
+again cycle gap client opened records =
+    replied (reply 0 cycle gap) ∷
+    stated (record { number = 0; client = client; opening = opened; survivors = 1; depth = 1; last = 10; records = records }) ∷
+    []
+
+unfoldable pub answersAgain : ℕ → List Heard
+answersAgain left = cond (eqb left 2) (again 11 0 7 0 2) (again 31 15 9 2 4)

@@ -6,9 +6,9 @@ use lib.ListN.{length}
 use Rattle.timing.specs.Earliest.{Settings, Stamped, Standing}
 use Rattle.timing.proofs.KindLaws.{kind-of-code}
 use Rattle.history.specs.Records.{opening, command, takeBack, History, Current, closed, session, standing, deepest}
-use Rattle.history.specs.Answers.{Verdict, replyOf, nextOf}
-use Rattle.history.specs.Struck.{Call, open-session, Answered, unrefused, openingNumber, depthAfter, recordsOf, survivorsIn, openedIn, current, recordsIn, verdict, LeadsTo, nothing-yet, then, offerOf, rest}
-use Rattle.history.proofs.AnswerLaws.{Shape, refuses, opens, stamps, withdraws, shape}
+use Rattle.history.specs.Answers.{Verdict, accepted, plain, replyOf, nextOf}
+use Rattle.history.specs.Struck.{Call, open-session, Answered, unrefused, openingNumber, depthAfter, recordsOf, survivorsIn, openedIn, current, recordsIn, callOf, verdict, LeadsTo, nothing-yet, found, then, offerOf, rest}
+use Rattle.history.proofs.AnswerLaws.{Shape, refuses, opens, stamps, withdraws, shape, found-shape}
 use Rattle.history.proofs.StruckLaws.{struck-stands, unrefused-not, unrefused-yes}
 
 -- the opening's number and the depth are those of what stands
@@ -58,6 +58,7 @@ module _ (ps : List Answered) (h : History) (k : Kept ps h) where
 pub leads-kept : {ps : List Answered} {h : History} → LeadsTo ps h → Kept ps h
 unfolding standing unrefused recordsOf
 leads-kept nothing-yet = record { count = refl; counts = tt; records = refl }
+leads-kept (found {ps = ps} {h = h} before r f g) = keep ps h (leads-kept before) (callOf r) (accepted (plain 0) r) (found-shape h r f g)
 leads-kept (then {ps = ps} {h = h} before room c) = keep ps h (leads-kept before) c (verdict room h c) (shape room h c)
 
 -- what is left of the calls, read back

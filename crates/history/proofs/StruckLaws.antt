@@ -14,9 +14,9 @@ use Rattle.timing.specs.Kinds.{kindOf}
 use Rattle.timing.specs.Earliest.{Settings, Stamped, Standing}
 use Rattle.history.specs.Records.{opening, History, Current, closed, session, standing, pushed, popped, deepest}
 use Rattle.timing.proofs.KindLaws.{code-of-kind}
-use Rattle.history.proofs.AnswerLaws.{Shape, refuses, opens, stamps, withdraws, shape}
-use Rattle.history.specs.Answers.{Verdict, replyOf, nextOf}
-use Rattle.history.specs.Struck.{Call, open-session, offer, take-back, Answered, unrefused, untaken, sinceOpening, struck, verdict, LeadsTo, nothing-yet, then, offerOf, rest}
+use Rattle.history.proofs.AnswerLaws.{Shape, refuses, opens, stamps, withdraws, shape, found-shape}
+use Rattle.history.specs.Answers.{Verdict, accepted, plain, replyOf, nextOf}
+use Rattle.history.specs.Struck.{Call, open-session, offer, take-back, Answered, unrefused, untaken, sinceOpening, struck, callOf, verdict, LeadsTo, nothing-yet, found, then, offerOf, rest}
 
 -- the depth, and the calls of what stands with the n latest commands left out
 abbrev depthOf : Current → ℕ
@@ -80,6 +80,7 @@ module _ (ps : List Answered) (h : History) (left : Left ps h) where
 leads-left : {ps : List Answered} {h : History} → LeadsTo ps h → Left ps h
 unfolding standing unrefused untaken sinceOpening
 leads-left nothing-yet = λ n l. refl
+leads-left (found {ps = ps} {h = h} before r f g) = step ps h (leads-left before) (callOf r) (accepted (plain 0) r) (found-shape h r f g)
 leads-left (then {ps = ps} {h = h} before room c) = step ps h (leads-left before) c (verdict room h c) (shape room h c)
 
 -- from the fresh state, for any calls with any rooms: struck, the calls and answers leave what stands of the accepted records

@@ -1,4 +1,5 @@
--- The cases checked by hand, K1 to K13, and those of mode 2: settings, the records that stand, a question, and the answer that it must get.
+-- The cases checked by hand, K1 to K13, those of mode 2 and those of the editions: settings, the records that stand, a question, and the answer that
+-- it must get.
 use mathlib.Core.Bool.{Bool, true, _&&_}
 use mathlib.Core.List.{List, [], _∷_, _++_, map, reverse}
 use Prim.Native.Nat.{ℕ, _+_, _-_, _%_}
@@ -8,6 +9,7 @@ use Rattle.timing.specs.declared.clocks.DramCycles.{DramCycles}
 use Rattle.timing.specs.declared.kinds.CommandKind.{CommandKind}
 use Rattle.timing.specs.declared.kinds.CommandKind.the-variants.{Act, Rd, Wr, Prepb, Preab, Refab, Refpb}
 use Rattle.timing.specs.Kinds.{codeOf}
+use Rattle.timing.specs.Editions.{documentOne, anyPrecharge}
 use Rattle.timing.specs.Earliest.{Settings}
 use Rattle.history.specs.Records.{Record, opening, command, takeBack, History}
 use Rattle.history.specs.Answers.{Reply, replyOf, maxRecords, offerOn, earliestOn, fine}
@@ -15,9 +17,13 @@ use Rattle.history.specs.Answers.{Reply, replyOf, maxRecords, offerOn, e
 abbrev pub gaps : List ℕ → List DramCycles
 gaps ns = map (λ n. record { 0 = n }) ns
 
--- settings A, at a ratio and a mode: one rank, client 7
+-- settings of an edition, at a ratio and a mode: one rank, client 7
+abbrev pub settingsIn : ℕ → ℕ → ℕ → List ℕ → Settings
+settingsIn edition ratio mode gs = record { opening = record { ratio = ratio; ranks = 1; mode = mode; edition = edition; client = 7 }; gaps = gaps gs }
+
+-- the K cases keep edition 0
 abbrev pub settings : ℕ → ℕ → List ℕ → Settings
-settings ratio mode gs = record { opening = record { ratio = ratio; ranks = 1; mode = mode; client = 7 }; gaps = gaps gs }
+settings = settingsIn documentOne
 
 abbrev pub gapsA : List ℕ
 gapsA = 60 ∷ 8 ∷ 18 ∷ 42 ∷ 8 ∷ 8 ∷ 6 ∷ 20 ∷ 7 ∷ 30 ∷ 30 ∷ 25 ∷ 40 ∷ 18 ∷ 21 ∷ 2 ∷ 280 ∷ 140 ∷ 90 ∷ 32 ∷ []
@@ -101,6 +107,20 @@ groupCases =
     case grouped (at Wr 0 10 ∷ []) (earliest Rd 3) (reply 0 40 11) ∷
     case grouped (at Wr 0 10 ∷ []) (earliest Rd 4) (reply 0 35 12) ∷
     []
+
+-- a refresh after the other kind of precharge, no K: in edition 0 the next cycle, from edition 1 on tRPab after it; any bank, any mode
+abbrev pub prechargeCases : ℕ → ℕ → ℕ → ℕ → List Case
+prechargeCases edition mode cycle gap =
+    let a = settingsIn edition 4 mode gapsA in
+    case a (at Prepb 3 10 ∷ []) (earliest Refab 0) (reply 0 cycle gap) ∷
+    case a (at Preab 0 10 ∷ []) (earliest Refpb 0) (reply 0 cycle gap) ∷
+    case a (at Preab 0 10 ∷ []) (earliest Refpb 5) (reply 0 cycle gap) ∷
+    []
+
+unfoldable pub editionCases : List Case
+editionCases =
+    prechargeCases documentOne 0 11 0 ++ prechargeCases documentOne 1 11 0 ++ prechargeCases documentOne 2 11 0
+    ++ prechargeCases anyPrecharge 0 16 15 ++ prechargeCases anyPrecharge 1 16 15 ++ prechargeCases anyPrecharge 2 16 15
 
 abbrev pub answered : History → Question → Reply
 answered h (earliest k bank) = earliestOn h (codeOf k) 0 bank

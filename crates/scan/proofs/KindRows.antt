@@ -1,5 +1,5 @@
 -- Which rows can ask, by the kind asked for: the rows that are left out ask for nothing, and those looked up at one bank for nothing elsewhere. Whether a
--- gap stands between two kinds is computed from the list of rules, for every mode.
+-- gap stands between two kinds is computed from the list of rules, for every edition and mode.
 use mathlib.Core.Path.{_≡_, refl, sym, _∙_, subst}
 use mathlib.Core.Logic.{_⊎_, ⊎-elim}
 use mathlib.Core.Bool.{Bool, _&&_}
@@ -44,13 +44,13 @@ preab-gaps : T (mute Prepb Preab) × T (mute Preab Preab) × T (mute Refab Preab
 unfolding mute lonely silent silentBelow ruleGap matching covers rules
 preab-gaps = (tt, tt, tt, tt)
 
-refab-gaps : T (mute Act Refab) × T (mute Rd Refab) × T (mute Wr Refab) × T (mute Prepb Refab) × T (mute Refpb Refab)
+refab-gaps : T (mute Act Refab) × T (mute Rd Refab) × T (mute Wr Refab) × T (mute Refpb Refab)
 unfolding mute lonely silent silentBelow ruleGap matching covers rules
-refab-gaps = (tt, tt, tt, tt, tt)
+refab-gaps = (tt, tt, tt, tt)
 
-refpb-gaps : T (lonely Prepb Refpb) × T (mute Act Refpb) × T (mute Rd Refpb) × T (mute Wr Refpb) × T (mute Preab Refpb) × T (mute Refab Refpb)
+refpb-gaps : T (lonely Prepb Refpb) × T (mute Act Refpb) × T (mute Rd Refpb) × T (mute Wr Refpb) × T (mute Refab Refpb)
 unfolding mute lonely silent silentBelow ruleGap matching covers rules
-refpb-gaps = (tt, tt, tt, tt, tt, tt)
+refpb-gaps = (tt, tt, tt, tt, tt)
 
 module _ (steps last : List ℕ) (o : Opening) (second : CommandKind) (spot : ℕ) (none : getD steps 0 0 ≡ 0) (bank : spot % 16 < 16) where
   abbrev row : CommandKind → ℕ
@@ -95,12 +95,12 @@ module _ (steps last : List ℕ) (o : Opening) (second : CommandKind) (spot : �
       let g = preab-gaps in
       seven ∙ rw (off e Prepb (g .0), off e Preab (g .1), off e Refab (g .2), off e Refpb (g .3)) (simp (zero-max, max-zero))
 
-  pub refab-rows : second ≡ Refab → rankAsk steps last o second spot ≡ max (row Preab) (row Refab)
+  pub refab-rows : second ≡ Refab → rankAsk steps last o second spot ≡ max (max (row Prepb) (row Preab)) (row Refab)
   refab-rows e =
       let g = refab-gaps in
-      seven ∙ rw (off e Act (g .0), off e Rd (g .1), off e Wr (g .2), off e Prepb (g .3), off e Refpb (g .4)) (simp (zero-max, max-zero))
+      seven ∙ rw (off e Act (g .0), off e Rd (g .1), off e Wr (g .2), off e Refpb (g .3)) (simp (zero-max, max-zero))
 
-  pub refpb-rows : second ≡ Refpb → rankAsk steps last o second spot ≡ max (one Prepb) (row Refpb)
+  pub refpb-rows : second ≡ Refpb → rankAsk steps last o second spot ≡ max (max (one Prepb) (row Preab)) (row Refpb)
   refpb-rows e =
       let g = refpb-gaps in
-      seven ∙ rw (lone e Prepb (g .0), off e Act (g .1), off e Rd (g .2), off e Wr (g .3), off e Preab (g .4), off e Refab (g .5)) (simp (zero-max, max-zero))
+      seven ∙ rw (lone e Prepb (g .0), off e Act (g .1), off e Rd (g .2), off e Wr (g .3), off e Refab (g .4)) (simp (zero-max, max-zero))

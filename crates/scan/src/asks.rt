@@ -209,9 +209,10 @@ fn of_refab(
     requires { ⌜ second ≡ Refab ⌝ }
     ensures { λ r. ⌜ r ≡ rankAsk (now (steps .entry)) (now (last .entry)) opening second spot ⌝ }
 {
+    let prepb = flat_row(table, steps, last, opening, second, spot, Kind::Prepb);
     let preab = flat_row(table, steps, last, opening, second, spot, Kind::Preab);
     let refab = flat_row(table, steps, last, opening, second, spot, Kind::Refab);
-    larger(preab, refab)
+    larger(larger(prepb, preab), refab)
 }
 
 fn of_refpb(
@@ -227,8 +228,9 @@ fn of_refpb(
     ensures { λ r. ⌜ r ≡ rankAsk (now (steps .entry)) (now (last .entry)) opening second spot ⌝ }
 {
     let prepb = one_bank(table, steps, last, opening, second, spot, Kind::Prepb);
+    let preab = flat_row(table, steps, last, opening, second, spot, Kind::Preab);
     let refpb = whole_row(table, steps, last, opening, second, spot, Kind::Refpb);
-    larger(prepb, refpb)
+    larger(larger(prepb, preab), refpb)
 }
 
 pub fn of_rank(

@@ -112,7 +112,7 @@ poppedProgress p e =
 
 abbrev pub noTerms : Terms
 noTerms =
-    record { rounded = replicate 20 (cycles 0); opening = record { ratio = 0; ranks = 0; mode = 0; client = 0 }; number = 0; «is_open» = 0 }
+    record { rounded = replicate 20 (cycles 0); opening = record { ratio = 0; ranks = 0; mode = 0; edition = 0; client = 0 }; number = 0; «is_open» = 0 }
 
 -- THE STATE
 abbrev pub cleared : Progress → Terms → Session

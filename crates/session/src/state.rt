@@ -87,6 +87,7 @@ impl Session {
                     ratio: 0,
                     ranks: 0,
                     mode: 0,
+                    edition: 0,
                     client: 0,
                 },
                 number: 0,

@@ -4,6 +4,7 @@ use Prim.Native.Nat.{ℕ, _+_}
 use lib.ListN.{length}
 use denote.Ref.{RefT}
 use Rattle.timing.specs.declared.clocks.DramCycles.{DramCycles}
+use Rattle.timing.specs.Editions.{newest}
 use Rattle.timing.specs.Earliest.{Settings}
 use Rattle.history.specs.Answers.{roomOf, Reply, Status, openOn, offerOn, earliestOn, takeBackOn, statusOn}
 use Rattle.history.specs.Struck.{Call, open-session, offer, take-back}
@@ -12,9 +13,9 @@ use Rattle.journal.specs.Restore.{Part, partOf, stretchOf}
 use Rattle.statements.specs.Exact.{openIn, offerIn, earliestIn, takeBackIn, statusIn, stretchIn}
 use Rattle.statements.specs.Statements.{Called, Told}
 
--- what an opening says
+-- what a live opening says: its caller's numbers, and the newest edition
 abbrev pub given : ℕ → ℕ → ℕ → ℕ → List DramCycles → Settings
-given ratio ranks mode client gaps = record { opening = record { ratio = ratio; ranks = ranks; mode = mode; client = client }; gaps = gaps }
+given ratio ranks mode client gaps = record { opening = record { ratio = ratio; ranks = ranks; mode = mode; edition = newest; client = client }; gaps = gaps }
 
 -- the calls that may write: from a state and lent bytes to a reply, a state and bytes
 abbrev pub Opens : Session → List ℕ → Settings → Reply → Session → List ℕ → Type 0

@@ -5,5 +5,6 @@ pub mod Legal
 pub mod Lookup
 pub mod Rounding
 pub mod TableLaws
+pub mod EditionLaws
 pub mod Ties
 pub mod Truth

@@ -3,18 +3,19 @@ use mathlib.Core.Path.{_≡_, refl, sym, _∙_, ap, subst}
 use mathlib.Core.Logic.{⊎-elim}
 use mathlib.Core.Bool.{Bool, true, false, cond, _&&_, _||_}
 use mathlib.Core.List.{List, [], _∷_, List·Memᴰ, List·Memᴰ·cases-cons, List·Memᴰ·not-nil}
-use Prim.Native.Nat.{ℕ, zero, suc, _+_, _-_, _*_, _/_, _%_, _<_}
+use Prim.Native.Nat.{ℕ, zero, suc, _+_, _-_, _*_, _/_, _%_, _<_, _≤_, min}
 use native.Mathlib.Nat.{not-suc-le-zero}
 use native.Mathlib.Omega.{arith}
-use lib.Dec.{T, eqb, eqb→eq, ltb, ltb→lt, lit<}
+use lib.Dec.{T, eqb, eqb→eq, leb, ltb, ltb→lt, lit<, lit≤}
 use lib.ListN.{getD}
-use borrow.Author.Tests.{lt-ltb, ltb-true, ltb-false}
+use borrow.Author.Tests.{lt-ltb, ltb-true, ltb-false, leb-true, leb-false, le-leb, lt-leb}
 use Rattle.timing.specs.declared.kinds.CommandKind.{CommandKind}
 use Rattle.timing.specs.declared.rules.Opening.{Opening}
 use Rattle.timing.specs.Kinds.{codeOf, allBanks}
+use Rattle.timing.specs.Editions.{anyPrecharge, newest, editionCount, has, knownEdition}
 use Rattle.timing.specs.Rules.{classFor, rules, matching, ruleGap, firstOr0, tableGap, matches, Rule, covers, modeCount}
-use Rattle.timing.specs.Table.{ungrouped, grouped, layerOf, layerPlace, tableLength, matchingAt, entryAt, inMode, alone, agreesBelow, agrees}
-use Rattle.timing.proofs.Truth.{and-left, and-right}
+use Rattle.timing.specs.Table.{ungrouped, grouped, ungroupedSince1, groupedSince1, layerOf, layerPlace, tableLength, matchingAt, entryAt, openedAs, alone, agreesBelow, agrees}
+use Rattle.timing.proofs.Truth.{and-left, and-right, true-is}
 use Rattle.timing.proofs.KindLaws.{code-low, code-high, kind-at-code}
 
 -- the list with this number alone, or nothing for 0
@@ -42,11 +43,14 @@ alone-at (suc n) k t l =
     go true e below here = below (ltb-true k n e)
     go false e below here = let same : k ≡ n = omega (arith, ltb-false k n e) in rw same here
 
-module _ (m class a b : ℕ) (hm : m < 3) (hc : class < 3) (ha : a < 7) (hb : b < 7) where
+module _ (e m class a b : ℕ) (he : e < editionCount) (hm : m < 3) (hc : class < 3) (ha : a < 7) (hb : b < 7) where
   abbrev place : ℕ
-  place = ((m * 3 + class) * 7 + a) * 7 + b
+  place = (((e * 3 + m) * 3 + class) * 7 + a) * 7 + b
 
-  place-mode : place / 147 ≡ m
+  place-edition : place / 441 ≡ e
+  place-edition = omega arith
+
+  place-mode : place / 147 % 3 ≡ m
   place-mode = omega arith
 
   place-class : place / 49 % 3 ≡ class
@@ -58,7 +62,7 @@ module _ (m class a b : ℕ) (hm : m < 3) (hc : class < 3) (ha : a < 7) (hb : b 
   place-second : place % 7 ≡ b
   place-second = omega arith
 
-  place-low : place < 441
+  place-low : place < tableLength
   place-low = omega arith
 
   place-in : place % 147 ≡ (class * 7 + a) * 7 + b
@@ -67,15 +71,39 @@ module _ (m class a b : ℕ) (hm : m < 3) (hc : class < 3) (ha : a < 7) (hb : b 
 code-place : (k : CommandKind) → codeOf k - 1 < 7
 code-place k = omega (arith, code-low k, code-high k)
 
--- the rules look at nothing of an opening but its mode
-mode-only : (o : Opening) (class : ℕ) (a b : CommandKind) (rs : List Rule) → matching (inMode (o .mode)) class a b rs ≡ matching o class a b rs
-unfolding matching
-mode-only o class a b [] = refl
-mode-only o class a b (r ∷ rs) = ap (λ (ns : List ℕ). cond (matches o class a b r) (r .number ∷ ns) ns) (mode-only o class a b rs)
+-- THE RULES LOOK AT NOTHING of an opening but its edition and mode, and an edition after the newest has what the newest has: no rule comes later
+abbrev settled : Opening → Opening
+settled o = openedAs (min (o .edition) newest) (o .mode)
 
--- one test, computed over all 441 entries
+has-settled : (o : Opening) (edition : ℕ) → edition ≤ newest → has (settled o) edition ≡ has o edition
+has-settled o edition l = go (leb edition (o .edition)) refl
+  where
+    go : (t : Bool) → leb edition (o .edition) ≡ t → leb edition (min (o .edition) newest) ≡ t
+    go true e = le-leb edition (min (o .edition) newest) (omega (arith, leb-true edition (o .edition) e))
+    go false e = lt-leb edition (min (o .edition) newest) (omega (arith, leb-false edition (o .edition) e))
+
+pub allKnown : List Rule → Bool
+allKnown [] = true
+allKnown (r ∷ rs) = knownEdition (r .since) && allKnown rs
+
+all-known : T (allKnown rules)
+unfolding allKnown rules
+all-known = tt
+
+settled-same : (o : Opening) (class : ℕ) (a b : CommandKind) (rs : List Rule) → T (allKnown rs) → matching (settled o) class a b rs ≡ matching o class a b rs
+unfolding matching allKnown
+settled-same o class a b [] t = refl
+settled-same o class a b (r ∷ rs) t =
+    let known = and-left (knownEdition (r .since)) (allKnown rs) t in
+    rw (has-settled o (r .since) (leb-true (r .since) newest (true-is (knownEdition (r .since)) known)))
+    (ap (λ (ns : List ℕ). cond (matches o class a b r) (r .number ∷ ns) ns) (settled-same o class a b rs (and-right (knownEdition (r .since)) (allKnown rs) t)))
+
+settled-layer : (o : Opening) → layerOf (settled o) ≡ layerOf o
+settled-layer o = ap (λ (t : Bool). cond t (cond (eqb (o .mode) 0) ungroupedSince1 groupedSince1) (cond (eqb (o .mode) 0) ungrouped grouped)) (has-settled o anyPrecharge (lit≤ tt))
+
+-- one test, computed over all 882 entries
 pub table-agrees : T agrees
-unfolding rules covers matching ungrouped grouped agreesBelow agrees
+unfolding rules covers matching ungrouped grouped ungroupedSince1 groupedSince1 agreesBelow agrees
 table-agrees = tt
 
 module _ (o : Opening) (class : ℕ) (a b : CommandKind) (hm : o .mode < 3) (hc : class < 3) where
@@ -83,15 +111,18 @@ module _ (o : Opening) (class : ℕ) (a b : CommandKind) (hm : o .mode < 3) (hc 
   entry-alone : matching o class a b rules ≡ only (getD (layerOf o) (layerPlace class a b) 0)
   unfolding agrees
   entry-alone =
+      let e = min (o .edition) newest in
+      let m = o .mode in
       let x = codeOf a - 1 in
       let y = codeOf b - 1 in
+      let he : e < editionCount = omega arith in
       let hx = code-place a in
       let hy = code-place b in
-      let p = ((o .mode * 3 + class) * 7 + x) * 7 + y in
-      let found = alone-only (entryAt p) (matchingAt p) (alone-at tableLength p table-agrees (place-low (o .mode) class x y hm hc hx hy)) in
-      let here : matching (inMode (o .mode)) class a b rules ≡ only (getD (layerOf o) (layerPlace class a b) 0) =
-      rw (place-mode (o .mode) class x y hm hc hx hy, place-in (o .mode) class x y hm hc hx hy, place-class (o .mode) class x y hm hc hx hy, place-first (o .mode) class x y hm hc hx hy, place-second (o .mode) class x y hm hc hx hy, kind-at-code a, kind-at-code b) at found in
-      sym (mode-only o class a b rules) ∙ here
+      let p = (((e * 3 + m) * 3 + class) * 7 + x) * 7 + y in
+      let found = alone-only (entryAt p) (matchingAt p) (alone-at tableLength p table-agrees (place-low e m class x y he hm hc hx hy)) in
+      let here : matching (settled o) class a b rules ≡ only (getD (layerOf (settled o)) (layerPlace class a b) 0) =
+      rw (place-edition e m class x y he hm hc hx hy, place-mode e m class x y he hm hc hx hy, place-in e m class x y he hm hc hx hy, place-class e m class x y he hm hc hx hy, place-first e m class x y he hm hc hx hy, place-second e m class x y he hm hc hx hy, kind-at-code a, kind-at-code b) at found in
+      sym (settled-same o class a b rules all-known) ∙ here ∙ ap (λ (l : List ℕ). only (getD l (layerPlace class a b) 0)) (settled-layer o)
 
   -- the table's entry is the rule's number
   pub table-entry : getD (layerOf o) (layerPlace class a b) 0 ≡ tableGap o class a b
@@ -153,30 +184,39 @@ class-low a b near l = go (allBanks a || allBanks b)
     go true = lit< tt
     go false = l
 
--- NO GAP between two kinds in a class, whatever the mode: one test over the modes
+-- NO GAP between two kinds in a class, whatever the edition and the mode: one test over both
+abbrev asNumbered : ℕ → Opening
+asNumbered i = openedAs (i / 3) (i % 3)
+
 unfoldable pub silentBelow : ℕ → ℕ → CommandKind → CommandKind → Bool
 silentBelow zero class a b = true
-silentBelow (suc m) class a b = eqb (ruleGap (inMode m) class a b) 0 && silentBelow m class a b
+silentBelow (suc i) class a b = eqb (ruleGap (asNumbered i) class a b) 0 && silentBelow i class a b
 
 unfoldable pub silent : ℕ → CommandKind → CommandKind → Bool
-silent class a b = silentBelow modeCount class a b
+silent class a b = silentBelow (editionCount * 3) class a b
 
 module _ (class : ℕ) (a b : CommandKind) where
-  silent-at : (n m : ℕ) → T (silentBelow n class a b) → m < n → ruleGap (inMode m) class a b ≡ 0
+  silent-at : (n i : ℕ) → T (silentBelow n class a b) → i < n → ruleGap (asNumbered i) class a b ≡ 0
   unfolding silentBelow
-  silent-at zero m t l = absurd (not-suc-le-zero l)
-  silent-at (suc n) m t l =
-      go (ltb m n) refl (silent-at n m (and-right (eqb (ruleGap (inMode n) class a b) 0) (silentBelow n class a b) t))
-      (and-left (eqb (ruleGap (inMode n) class a b) 0) (silentBelow n class a b) t)
+  silent-at zero i t l = absurd (not-suc-le-zero l)
+  silent-at (suc n) i t l =
+      go (ltb i n) refl (silent-at n i (and-right (eqb (ruleGap (asNumbered n) class a b) 0) (silentBelow n class a b) t))
+      (and-left (eqb (ruleGap (asNumbered n) class a b) 0) (silentBelow n class a b) t)
     where
-      go : (y : Bool) → ltb m n ≡ y → (m < n → ruleGap (inMode m) class a b ≡ 0) → T (eqb (ruleGap (inMode n) class a b) 0) → ruleGap (inMode m) class a b ≡ 0
-      go true e below here = below (ltb-true m n e)
-      go false e below here = let same : m ≡ n = omega (arith, ltb-false m n e) in rw same (eqb→eq (ruleGap (inMode n) class a b) 0 here)
+      go : (y : Bool) → ltb i n ≡ y → (i < n → ruleGap (asNumbered i) class a b ≡ 0) → T (eqb (ruleGap (asNumbered n) class a b) 0) → ruleGap (asNumbered i) class a b ≡ 0
+      go true e below here = below (ltb-true i n e)
+      go false e below here = let same : i ≡ n = omega (arith, ltb-false i n e) in rw same (eqb→eq (ruleGap (asNumbered n) class a b) 0 here)
 
   pub silent-gap : (o : Opening) → T (silent class a b) → tableGap o class a b ≡ 0
   unfolding tableGap ruleGap silent
   silent-gap o t = go (ltb (o .mode) modeCount) refl
     where
       go : (y : Bool) → ltb (o .mode) modeCount ≡ y → cond y (firstOr0 (matching o class a b rules)) 0 ≡ 0
-      go true e = rw (sym (mode-only o class a b rules)) (silent-at modeCount (o .mode) t (ltb-true (o .mode) modeCount e))
+      go true e =
+          let low = ltb-true (o .mode) modeCount e in
+          let i = min (o .edition) newest * 3 + o .mode in
+          let edition : i / 3 ≡ min (o .edition) newest = omega arith in
+          let mode : i % 3 ≡ o .mode = omega arith in
+          let none : ruleGap (settled o) class a b ≡ 0 = rw (edition, mode) at (silent-at (editionCount * 3) i t (omega arith)) in
+          rw (sym (settled-same o class a b rules all-known)) none
       go false e = refl

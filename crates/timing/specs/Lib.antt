@@ -1,5 +1,6 @@
 pub mod Kinds
 pub mod Clocks
+pub mod Editions
 pub mod Rules
 pub mod Table
 pub mod Earliest

@@ -10,6 +10,8 @@ pub struct Opening {
     pub ratio: u8,
     pub ranks: u8,
     pub mode: u8,
+    // Which rules are in force (`editions`).
+    pub edition: u8,
     pub client: u32,
 }
 

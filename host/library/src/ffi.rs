@@ -17,6 +17,7 @@ pub struct Opening {
     pub ratio: u8,
     pub ranks: u8,
     pub mode: u8,
+    pub edition: u8,
     pub client: u32,
 }
 
@@ -179,11 +180,11 @@ pub struct Played {
 }
 
 extern "C" {
-    #[link_name = "rossinhiu_fresh_2"]
+    #[link_name = "rossinhiu_fresh_3"]
     pub fn rossinhiu_fresh() -> Session;
-    #[link_name = "rossinhiu_gaps_2"]
+    #[link_name = "rossinhiu_gaps_3"]
     pub fn rossinhiu_gaps(tck: u64, times: Times) -> Sheet;
-    #[link_name = "rossinhiu_open_2"]
+    #[link_name = "rossinhiu_open_3"]
     pub fn rossinhiu_open(
         session: Session,
         journal: *mut u8,
@@ -194,7 +195,7 @@ extern "C" {
         client: u32,
         gaps: Gaps,
     ) -> Opened;
-    #[link_name = "rossinhiu_offer_2"]
+    #[link_name = "rossinhiu_offer_3"]
     pub fn rossinhiu_offer(
         session: Session,
         journal: *mut u8,
@@ -204,7 +205,7 @@ extern "C" {
         bank: u64,
         cycle: u64,
     ) -> Offered;
-    #[link_name = "rossinhiu_offer_all_2"]
+    #[link_name = "rossinhiu_offer_all_3"]
     pub fn rossinhiu_offer_all(
         session: Session,
         journal: *mut u8,
@@ -212,7 +213,7 @@ extern "C" {
         commands: *const Command,
         listed: usize,
     ) -> Burst;
-    #[link_name = "rossinhiu_offer_pieces_2"]
+    #[link_name = "rossinhiu_offer_pieces_3"]
     pub fn rossinhiu_offer_pieces(
         session: Session,
         journal: *mut u8,
@@ -220,17 +221,17 @@ extern "C" {
         pieces: *const u8,
         pieces_size: usize,
     ) -> Burst;
-    #[link_name = "rossinhiu_earliest_2"]
+    #[link_name = "rossinhiu_earliest_3"]
     pub fn rossinhiu_earliest(session: Session, kind: u64, rank: u64, bank: u64) -> Numbers;
-    #[link_name = "rossinhiu_take_back_2"]
+    #[link_name = "rossinhiu_take_back_3"]
     pub fn rossinhiu_take_back(session: Session, journal: *mut u8, size: usize) -> TakenBack;
-    #[link_name = "rossinhiu_status_2"]
+    #[link_name = "rossinhiu_status_3"]
     pub fn rossinhiu_status(session: Session) -> Status;
-    #[link_name = "rossinhiu_restore_2"]
+    #[link_name = "rossinhiu_restore_3"]
     pub fn rossinhiu_restore(journal: *const u8, size: usize) -> Restored;
-    #[link_name = "rossinhiu_stretch_2"]
+    #[link_name = "rossinhiu_stretch_3"]
     pub fn rossinhiu_stretch(session: Session, size: usize) -> Part;
-    #[link_name = "rossinhiu_list_part_2"]
+    #[link_name = "rossinhiu_list_part_3"]
     pub fn rossinhiu_list_part(
         session: Session,
         part: *const u8,
@@ -239,7 +240,7 @@ extern "C" {
         out: *mut u8,
         out_size: usize,
     ) -> Listed;
-    #[link_name = "rossinhiu_console_2"]
+    #[link_name = "rossinhiu_console_3"]
     pub fn rossinhiu_console(
         session: Session,
         journal: *mut u8,

@@ -6,10 +6,10 @@ use rossinhiu::checker::{self, Console, Said};
 use rossinhiu::ffi::{self, Numbers, Part, Session};
 use rossinhiu_model::burst_calls::{compare_burst_calls, Checker};
 use rossinhiu_model::console as model_console;
-use rossinhiu_model::generate::{in_mode, script, Rng, MOODS, SETTINGS_A};
+use rossinhiu_model::generate::{any_opening, reopened, script, Rng, MOODS, SETTINGS_A};
 use rossinhiu_model::listing;
 use rossinhiu_model::model::{
-    Answer, BurstAnswer, Command, State, Status, LAST_CYCLE, MOST_RECORDS, RECORD,
+    Answer, BurstAnswer, Command, State, Status, LAST_CYCLE, MOST_RECORDS, RECORD, REFAB, REFPB,
 };
 use rossinhiu_model::sheet::SheetAnswer;
 use rossinhiu_model::sheet_calls::compare_gaps_calls;
@@ -170,8 +170,17 @@ impl Pair {
         let due = self.model.offer(&mut self.expected, command);
         self.saw("offer", came.number, came.gap);
         if came.gap != 0 {
-            let mode = self.session.terms.opening.mode.into();
-            *self.seen.entry(("mode", mode, came.gap)).or_default() += 1;
+            let opening = self.session.terms.opening;
+            *self
+                .seen
+                .entry(("mode", opening.mode.into(), came.gap))
+                .or_default() += 1;
+            if came.gap == 15 {
+                *self
+                    .seen
+                    .entry(("tRPab", opening.edition.into(), kind))
+                    .or_default() += 1;
+            }
         }
         self.hold("offer", told(came), (due.number, due.cycle, due.gap));
     }
@@ -232,12 +241,14 @@ impl Pair {
                 bytes[at] ^= 1 << self.rng.below(8);
             }
             2 => bytes.extend((0..self.rng.below(64)).map(|n| n as u8)),
-            // The session of another mode, which the journal names: mode 1 comes from old journals alone.
+            // The session of another mode or edition, which the journal names: mode 1 and old editions come from old journals alone.
             3 | 4 => {
-                let mode = self.rng.pick(&[0, 1, 1, 1, 2]);
-                if let Some((at, good)) = in_mode(&bytes, mode) {
-                    bytes[at] = mode;
-                    bytes.truncate(good * RECORD);
+                let changes = any_opening(&mut self.rng);
+                if let Some(found) = reopened(&bytes, &changes) {
+                    for (at, byte) in found.pokes {
+                        bytes[at] = byte;
+                    }
+                    bytes.truncate(found.records * RECORD);
                 }
             }
             _ => {}
@@ -380,6 +391,17 @@ fn every_answer_came(seen: &Seen) {
         for mode in 0..3 {
             let came = seen.contains_key(&("mode", mode, gap));
             assert_eq!(came, modes.contains(&mode), "gap {gap} in mode {mode}");
+        }
+    }
+    // REFPB was too early by tRPab since edition 1, and in no edition before it; REFAB, also after a PREAB, in both.
+    for (kind, editions) in [(REFPB, 1..2), (REFAB, 0..2)] {
+        for edition in 0..2 {
+            let came = seen.contains_key(&("tRPab", edition, kind));
+            assert_eq!(
+                came,
+                editions.contains(&edition),
+                "kind {kind} in edition {edition}"
+            );
         }
     }
     for gap in 1..=20 {
@@ -697,6 +719,7 @@ fn any_session(rng: &mut Rng) -> Session {
     session.terms.opening.ratio = any() as u8;
     session.terms.opening.ranks = any() as u8;
     session.terms.opening.mode = any() as u8;
+    session.terms.opening.edition = any() as u8;
     session.terms.opening.client = any() as u32;
     session.terms.number = any() as u32;
     session.terms.is_open = any() as u8;

@@ -712,8 +712,8 @@ fn another_layout_does_not_link() {
 /// The number of the layout, and what it stands for: where sizes or offsets change, the next number goes into the header, the exported
 /// names and their names in Rust, and both are written here anew. A struct that is added changes the fingerprint alone: the others are
 /// where they were.
-const LAYOUT: u64 = 2;
-const FINGERPRINT: u64 = 4_271_491_509_093_967_012;
+const LAYOUT: u64 = 3;
+const FINGERPRINT: u64 = 15_391_797_690_922_650_506;
 
 fn fingerprint(text: &str) -> u64 {
     let step = |hash: u64, byte: u8| (hash ^ u64::from(byte)).wrapping_mul(0x100_0000_01b3);
@@ -739,7 +739,7 @@ fn the_headers_layout() {
     let mut all: Vec<(String, usize)> = Vec::new();
     layout!(all,
         "rossinhiu_entry" ffi::Entry { slot, earlier, pushed_out, latest }
-        "rossinhiu_opening" ffi::Opening { ratio, ranks, mode, client }
+        "rossinhiu_opening" ffi::Opening { ratio, ranks, mode, edition, client }
         "rossinhiu_progress" ffi::Progress { activates, latest, position, survivors, depth, records }
         "rossinhiu_terms" ffi::Terms { rounded, opening, number, is_open }
         "rossinhiu_session" ffi::Session { last, entries, progress, terms }

@@ -2,10 +2,13 @@
 //! what holds another program's calls against the model.
 
 use crate::console::LONGEST_LINE;
-use crate::generate::{in_mode, Habits, Rng, LIVE_MODES, NO_KINDS, SETTINGS_A, TOO_LARGE};
+use crate::generate::{
+    any_opening, bad_opening, older, precharge_and_refresh, reopened, Change, Habits, Reopened,
+    Rng, LIVE_MODES, NO_KINDS, SETTINGS_A, TOO_LARGE,
+};
 use crate::model::{
-    bytes_of, Answer, BurstAnswer, Command, Record, State, Status, ACT, LAST_CYCLE, NAMES, PREAB,
-    RD, RECORD, REFAB, WR,
+    bytes_of, Answer, BurstAnswer, Command, Record, State, Status, ACT, LAST_CYCLE, NAMES,
+    NEWEST_EDITION, PREAB, PREPB, RD, RECORD, REFAB, REFPB, WR,
 };
 use crate::sheet_calls::NO_NUMBERS;
 use std::fmt::{Debug, Display};
@@ -18,6 +21,17 @@ fn any_bank(rng: &mut Rng, kind: u64, banks: u64) -> u64 {
     match kind {
         PREAB | REFAB => 0,
         _ => rng.below(banks),
+    }
+}
+
+/// A place where the mode or the edition shows behind a command: after a precharge mostly the refresh of the other kind, else a column command on the same
+/// bank, within its group or beside it.
+pub fn place_behind(rng: &mut Rng, last: &Command) -> (u64, u64, u64) {
+    let column = (rng.pick(&[RD, WR]), last.rank, last.bank ^ rng.below(6));
+    match last.kind {
+        PREPB if rng.chance(85) => (REFAB, last.rank, 0),
+        PREAB if rng.chance(85) => (REFPB, last.rank, rng.below(16)),
+        _ => column,
     }
 }
 
@@ -243,6 +257,35 @@ pub fn activates_for(
     list
 }
 
+/// So many precharges and refreshes of a rank by turns, each refresh of the kind that edition 1 holds back and at its earliest cycle. Often one of them is
+/// too early, if a gap holds it back.
+pub fn refreshes_for(rng: &mut Rng, state: &State, rank: u64, length: usize) -> Vec<Command> {
+    let mut played = state.clone();
+    let mut list: Vec<Command> = Vec::new();
+    let any_refresh = 1 + 2 * rng.below(length.max(2) as u64 / 2) as usize;
+    let early = rng.chance(65).then_some(any_refresh);
+    while list.len() < length {
+        let (precharge, (kind, bank)) = precharge_and_refresh(rng, &played, rank);
+        played.records.push(Record::Command(precharge));
+        list.push(precharge);
+        let (earliest, gap) = played.earliest(kind, rank, bank);
+        let mut refresh = Command {
+            kind,
+            rank,
+            bank,
+            cycle: earliest as u64,
+        };
+        if Some(list.len()) == early && gap != 0 {
+            refresh.cycle = rng.pick(&[refresh.cycle - 1, precharge.cycle + 1]);
+        } else {
+            played.records.push(Record::Command(refresh));
+        }
+        list.push(refresh);
+    }
+    list.truncate(length);
+    list
+}
+
 /// The first place, the last, the middle or any.
 pub fn any_place(rng: &mut Rng, length: usize) -> usize {
     let any = rng.below(length.max(1) as u64) as usize;
@@ -268,13 +311,14 @@ fn any_length(rng: &mut Rng, most: usize) -> usize {
 pub fn any_burst(rng: &mut Rng, state: &State, most: usize, widest: u64) -> Vec<Command> {
     let habits = Habits::any(rng);
     let length = any_length(rng, most);
-    match rng.below(10) {
+    let rank = rng.below(state.session().map_or(1, |s| s.1.ranks));
+    match rng.below(11) {
         0 => return careless_list(rng, (state, &habits), length),
         1 => {
-            let ranks = state.session().map_or(1, |s| s.1.ranks);
-            let (rank, early) = (rng.below(ranks), rng.between(4, 16) as usize);
+            let early = rng.between(4, 16) as usize;
             return activates_for(rng, state, rank, (length.min(16), early));
         }
+        2 => return refreshes_for(rng, state, rank, length.min(12)),
         _ => {}
     }
     let refusal = (any_place(rng, length), rng.between(2, 7));
@@ -425,20 +469,29 @@ impl Checker for Model {
 
 /// Gaps at which lists soon meet one another, and gaps that let everything stand.
 fn any_gaps(rng: &mut Rng) -> [u16; 20] {
-    match rng.below(6) {
+    match rng.below(7) {
         0 | 1 => SETTINGS_A,
         2 => [0; 20],
         3 => [(); 20].map(|()| rng.below(6) as u16),
         4 => [(); 20].map(|()| rng.below(80) as u16),
+        5 => {
+            // A precharge of all banks is longer than anything else.
+            let mut gaps = [(); 20].map(|()| rng.below(40) as u16);
+            gaps[14] = rng.between(40, 200) as u16;
+            gaps
+        }
         _ => [(); 20].map(|()| rng.pick(&[0, 1, 4, 5, 255, 256, 65_532, 65_535])),
     }
 }
 
-/// The commands that were handed over in lists, and those of them in sessions of each mode.
+/// The rule editions that there are.
+pub(crate) const EDITIONS: usize = NEWEST_EDITION as usize + 1;
+
+/// The commands that were handed over in lists, and those of them in sessions of each edition and mode.
 #[derive(Clone, Copy, Debug, Default)]
 struct Handed {
     all: u64,
-    in_mode: [u64; 3],
+    within: [[u64; 3]; EDITIONS],
 }
 
 /// The model and another program, of the same calls.
@@ -460,9 +513,10 @@ fn same<T: PartialEq + Debug>(call: &str, expected: T, got: T) -> Result<(), Str
 
 impl<C: Checker> Pair<C> {
     fn turn(&mut self, rng: &mut Rng) -> Result<(), String> {
-        match rng.below(21) {
-            0 => self.open(rng)?,
-            20 => self.change_mode(rng.pick(&[0, 1, 1, 2]))?,
+        match rng.below(23) {
+            0 | 20 => self.open(rng)?,
+            21 => self.reopen(rng, any_opening)?,
+            22 => self.spoil_opening(rng)?,
             1 | 2 => {
                 for _ in 0..rng.pick(&[1, 1, 2, 5, 63, 64, 65, 70]) {
                     same("back", self.model.back(), self.other.back())?;
@@ -481,18 +535,18 @@ impl<C: Checker> Pair<C> {
         self.same_state(rng)
     }
 
-    /// Before some openings one in mode 1, which is refused, and behind some a session in it all the same.
+    /// Before some openings one in mode 1, which is refused, and behind some a session in it, or of an older edition, all the same.
     fn open(&mut self, rng: &mut Rng) -> Result<(), String> {
         if rng.chance(10) {
             self.open_in(rng, 1)?;
         }
         let mode = rng.pick(&LIVE_MODES);
         self.open_in(rng, mode)?;
-        if rng.chance(35) {
+        if rng.chance(60) {
             if rng.chance(50) {
                 self.burst(rng)?;
             }
-            self.change_mode(1)?;
+            self.reopen(rng, older)?;
         }
         Ok(())
     }
@@ -505,23 +559,57 @@ impl<C: Checker> Pair<C> {
         same(&about, expected, self.other.open(settings, client, gaps))
     }
 
-    /// The session in force goes on in another mode: that is written into its opening, and what is good then is restored.
-    fn change_mode(&mut self, mode: u8) -> Result<(), String> {
-        let front = &self.model.journal[..RECORD * self.model.state.records.len()];
-        let Some((at, records)) = in_mode(front, mode) else {
+    /// The session in force goes on as an opening says that was written into its place. Of a journal in which a record is bad then, all is
+    /// restored now and then, and then what is good.
+    fn reopen(
+        &mut self,
+        rng: &mut Rng,
+        opening: fn(&mut Rng) -> Vec<Change>,
+    ) -> Result<(), String> {
+        let all = self.model.state.records.len();
+        let front = &self.model.journal[..RECORD * all];
+        let Some(Reopened { pokes, records }) = reopened(front, &opening(rng)) else {
             return Ok(());
         };
-        self.model.poke(at, mode);
-        self.other.poke(at, mode);
-        let bytes = RECORD * records;
-        let about = format!("poke {at} {mode}, restore {bytes}");
+        for (at, byte) in pokes {
+            self.poke(at, byte);
+        }
+        if records < all && rng.chance(50) {
+            self.restore(RECORD * all)?;
+        }
+        self.restore(RECORD * records)
+    }
+
+    /// The opening of the session in force is made a bad one, which a restore refuses, and put right again.
+    fn spoil_opening(&mut self, rng: &mut Rng) -> Result<(), String> {
+        let Some((opening, _)) = self.model.state.session() else {
+            return Ok(());
+        };
+        let (place, byte) = bad_opening(rng);
+        let at = RECORD * opening + place;
+        let end = RECORD * self.model.state.records.len();
+        let old = self.model.journal[at];
+        self.poke(at, byte);
+        self.restore(end)?;
+        self.same_state(rng)?;
+        self.poke(at, old);
+        self.restore(end)
+    }
+
+    fn poke(&mut self, at: usize, byte: u8) {
+        self.model.poke(at, byte);
+        self.other.poke(at, byte);
+    }
+
+    fn restore(&mut self, bytes: usize) -> Result<(), String> {
+        let about = format!("restore {bytes}");
         same(&about, self.model.restore(bytes), self.other.restore(bytes))
     }
 
     fn hand(&mut self, commands: usize) {
         self.handed.all += commands as u64;
         if let Some((_, opening)) = self.model.state.session() {
-            self.handed.in_mode[opening.mode as usize] += commands as u64;
+            self.handed.within[opening.edition as usize][opening.mode as usize] += commands as u64;
         }
     }
 
@@ -546,13 +634,13 @@ impl<C: Checker> Pair<C> {
         same(&about, expected, self.other.burst_bytes(&bytes))
     }
 
-    /// A place to ask for: any, or near the last survivor's, within its group or beside it.
+    /// A place to ask for: any, or one that the last survivor has to do with.
     fn place(&self, rng: &mut Rng) -> (u64, u64, u64) {
         let (kind, rank) = (rng.between(1, 7), rng.below(2));
         let bank = any_bank(rng, kind, 16);
         let survivors = self.model.state.survivors();
         match survivors.last().filter(|_| rng.chance(50)) {
-            Some(last) => (rng.pick(&[RD, WR]), last.rank, last.bank ^ rng.below(6)),
+            Some(last) => place_behind(rng, last),
             None => (kind, rank, bank),
         }
     }
@@ -601,7 +689,7 @@ fn play_round<C: Checker>(
 }
 
 /// For tests of single calls in volume: in each round a fresh program over these bytes, then bursts in both forms, offers, take-backs, openings and
-/// restores in every mode, and each answer, the state's answers and every byte of the journal held against the model. No kind, rank or bank in a list is
+/// restores in every mode and edition, and each answer, the state's answers and every byte of the journal held against the model. No kind, rank or bank in a list is
 /// above `widest`, at least 255; pieces of bytes stay below 256. Gives how many commands were handed over in lists, or the first difference.
 pub fn compare_burst_calls<C: Checker>(
     seed: u64,
@@ -619,11 +707,12 @@ pub fn compare_burst_calls<C: Checker>(
     Ok(handed)
 }
 
-/// Bursts and modes that are wrong in one way, so that calls and scripts can be shown to tell.
+/// Bursts, modes and editions that are wrong in one way, so that calls and scripts can be shown to tell.
 #[cfg(test)]
 pub mod wrong {
     use super::*;
-    use crate::model::room;
+    use crate::generate::{EDITION_AT, MODE_AT};
+    use crate::model::{room, Opening};
 
     /// A list into a state and its journal.
     pub type Burst = fn(&mut State, &mut [u8], &[Command]) -> BurstAnswer;
@@ -827,9 +916,55 @@ pub mod wrong {
         }),
     ];
 
+    /// Refreshes of one kind by the rules of this edition, whatever the opening says.
+    fn refreshes_by(
+        (kind, edition): (u64, u64),
+        state: &mut State,
+        lent: &mut [u8],
+        list: &[Command],
+    ) -> BurstAnswer {
+        let own = state.session().map_or(0, |s| s.1.edition);
+        for (count, command) in list.iter().enumerate() {
+            set_edition(state, if command.kind == kind { edition } else { own });
+            let refusal = state.offer(lent, *command);
+            set_edition(state, own);
+            if refusal.number != 0 {
+                return BurstAnswer { count, refusal };
+            }
+        }
+        state.burst(lent, &[])
+    }
+
+    /// Of the session in force.
+    pub fn set_edition(state: &mut State, edition: u64) {
+        let found = state.records.iter_mut().rev().find_map(|r| match r {
+            Record::Opening(opening) => Some(opening),
+            _ => None,
+        });
+        if let Some(opening) = found {
+            opening.edition = edition;
+        }
+    }
+
+    /// Those that know one pair of request 2026-05 only, or one in every edition.
+    const REFRESHES: [(&str, Burst); 4] = [
+        ("PREPB to REFAB left out", |state, lent, list| {
+            refreshes_by((REFAB, 0), state, lent, list)
+        }),
+        ("PREAB to REFPB left out", |state, lent, list| {
+            refreshes_by((REFPB, 0), state, lent, list)
+        }),
+        ("PREPB to REFAB in every edition", |state, lent, list| {
+            refreshes_by((REFAB, NEWEST_EDITION), state, lent, list)
+        }),
+        ("PREAB to REFPB in every edition", |state, lent, list| {
+            refreshes_by((REFPB, NEWEST_EDITION), state, lent, list)
+        }),
+    ];
+
     /// Each is right but for what its name says.
     pub fn bursts() -> Vec<(&'static str, Burst)> {
-        [ENDS.as_slice(), &TOLD, &LEFT, &LOOKED].concat()
+        [ENDS.as_slice(), &TOLD, &LEFT, &LOOKED, &REFRESHES].concat()
     }
 
     fn whole(pieces: &[u8]) -> Vec<Command> {
@@ -885,27 +1020,39 @@ pub mod wrong {
         model.open(settings, client, gaps)
     }
 
-    /// The last so many records, as if an opening said another mode.
-    fn judge(state: &mut State, records: usize, mode: fn(u64) -> u64) {
-        for record in state.records.iter_mut().rev().take(records) {
-            if let Record::Opening(o) = record {
-                o.mode = mode(o.mode);
+    /// Every opening, as if it said something else.
+    fn judge(state: &mut State, other: fn(&mut Opening)) {
+        for record in &mut state.records {
+            if let Record::Opening(opening) = record {
+                other(opening);
             }
         }
     }
 
-    fn restored(bytes: &[u8], mode: fn(u64) -> u64) -> (u64, usize, State) {
+    fn restored(bytes: &[u8], other: fn(&mut Opening)) -> (u64, usize, State) {
         let (number, at, mut state) = State::restore(bytes);
-        judge(&mut state, usize::MAX, mode);
+        judge(&mut state, other);
         (number, at, state)
     }
 
-    fn two_as_one(mode: u64) -> u64 {
-        mode.min(1)
+    /// A restore of openings that are changed before they are read.
+    fn restored_as(bytes: &[u8], change: fn(&mut [u8])) -> (u64, usize, State) {
+        let mut bytes = bytes.to_vec();
+        let records = bytes.chunks_exact_mut(RECORD);
+        records.filter(|r| r[0] == 1).for_each(change);
+        State::restore(&bytes)
     }
 
-    fn two_as_none(mode: u64) -> u64 {
-        mode % 2
+    fn two_as_one(opening: &mut Opening) {
+        opening.mode = opening.mode.min(1);
+    }
+
+    fn two_as_none(opening: &mut Opening) {
+        opening.mode %= 2;
+    }
+
+    fn of_edition_0(opening: &mut Opening) {
+        opening.edition = 0;
     }
 
     /// Those that refuse, or don't refuse, a mode.
@@ -950,7 +1097,7 @@ pub mod wrong {
             (
                 |model, settings, client, gaps| {
                     let answer = model.open(settings, client, gaps);
-                    judge(&mut model.state, 1, two_as_one);
+                    judge(&mut model.state, two_as_one);
                     answer
                 },
                 |bytes| restored(bytes, two_as_one),
@@ -961,7 +1108,7 @@ pub mod wrong {
             (
                 |model, settings, client, gaps| {
                     let answer = model.open(settings, client, gaps);
-                    judge(&mut model.state, 1, two_as_none);
+                    judge(&mut model.state, two_as_none);
                     answer
                 },
                 |bytes| restored(bytes, two_as_none),
@@ -969,21 +1116,106 @@ pub mod wrong {
         ),
         (
             "groups of four in mode 1",
-            (open, |bytes| restored(bytes, |mode| 2 * mode.min(1))),
+            (open, |bytes| {
+                restored(bytes, |o| o.mode = 2 * o.mode.min(1))
+            }),
         ),
         (
             "mode 1 by mode 0's rules",
-            (open, |bytes| restored(bytes, |mode| mode & 2)),
+            (open, |bytes| restored(bytes, |o| o.mode &= 2)),
         ),
         (
             "mode 0 behind a restore",
-            (open, |bytes| restored(bytes, |_| 0)),
+            (open, |bytes| restored(bytes, |o| o.mode = 0)),
+        ),
+    ];
+
+    /// Those that write, take or apply another edition.
+    const OF_ANOTHER_EDITION: [(&str, (Open, Restore)); 9] = [
+        (
+            "edition 0 written",
+            (
+                |model, settings, client, gaps| {
+                    let answer = model.open(settings, client, gaps);
+                    if answer == 0 {
+                        let at = RECORD * (model.state.records.len() - 1);
+                        model.journal[at + EDITION_AT] = 0;
+                    }
+                    answer
+                },
+                State::restore,
+            ),
+        ),
+        (
+            "edition 0 applied live",
+            (
+                |model, settings, client, gaps| {
+                    let answer = model.open(settings, client, gaps);
+                    judge(&mut model.state, of_edition_0);
+                    answer
+                },
+                State::restore,
+            ),
+        ),
+        (
+            "the edition of the session before",
+            (
+                |model, settings, client, gaps| {
+                    let before = model.state.session().map(|s| s.1.edition);
+                    let answer = model.open(settings, client, gaps);
+                    if let Some(Record::Opening(o)) = model.state.records.last_mut() {
+                        o.edition = before.unwrap_or(o.edition);
+                    }
+                    answer
+                },
+                State::restore,
+            ),
+        ),
+        (
+            "edition 0 behind a restore",
+            (open, |bytes| restored(bytes, of_edition_0)),
+        ),
+        (
+            "the newest edition behind a restore",
+            (open, |bytes| {
+                restored(bytes, |o| o.edition = NEWEST_EDITION)
+            }),
+        ),
+        (
+            "the newest edition in a restore",
+            (open, |bytes| {
+                restored_as(bytes, |r| {
+                    r[EDITION_AT] = r[EDITION_AT].max(NEWEST_EDITION as u8)
+                })
+            }),
+        ),
+        (
+            "an unknown edition taken",
+            (open, |bytes| {
+                restored_as(bytes, |r| {
+                    r[EDITION_AT] = r[EDITION_AT].min(NEWEST_EDITION as u8)
+                })
+            }),
+        ),
+        (
+            "the byte behind the edition not looked at",
+            (open, |bytes| restored_as(bytes, |r| r[EDITION_AT + 1] = 0)),
+        ),
+        (
+            "mode 1 in edition 0 only",
+            (open, |bytes| {
+                restored_as(bytes, |r| {
+                    if r[EDITION_AT] > 0 && r[MODE_AT] == 1 {
+                        r[MODE_AT] = 3;
+                    }
+                })
+            }),
         ),
     ];
 
     /// Each is right but for what its name says.
-    pub fn modes() -> Vec<(&'static str, (Open, Restore))> {
-        [REFUSED.as_slice(), &JUDGED].concat()
+    pub fn openings() -> Vec<(&'static str, (Open, Restore))> {
+        [REFUSED.as_slice(), &JUDGED, &OF_ANOTHER_EDITION].concat()
     }
 
     /// A program with one of them, or the right ones.
@@ -1005,7 +1237,7 @@ pub mod wrong {
     }
 
     pub const RIGHT: (Burst, Cut) = (in_a_row, whole);
-    pub const RIGHT_MODES: (Open, Restore) = (open, State::restore);
+    pub const RIGHT_OPENINGS: (Open, Restore) = (open, State::restore);
 
     impl Checker for Program {
         fn open(&mut self, settings: (u64, u64, u64), client: u32, gaps: [u16; 20]) -> u64 {
@@ -1051,7 +1283,7 @@ mod tests {
     use std::collections::BTreeMap;
 
     fn compared(seed: u64, rounds: u64, calls: (wrong::Burst, wrong::Cut)) -> Result<u64, String> {
-        compared_with(seed, rounds, calls, wrong::RIGHT_MODES)
+        compared_with(seed, rounds, calls, wrong::RIGHT_OPENINGS)
     }
 
     fn compared_with(
@@ -1098,30 +1330,31 @@ mod tests {
     }
 
     #[test]
-    fn wrong_modes_are_found_wrong() {
-        for (name, modes) in wrong::modes() {
+    fn wrong_openings_are_found_wrong() {
+        for (name, openings) in wrong::openings() {
             for seed in [1, 1_000] {
-                let report = compared_with(seed, 60, wrong::RIGHT, modes).expect_err(name);
+                let report = compared_with(seed, 60, wrong::RIGHT, openings).expect_err(name);
                 assert!(report.contains("expected "), "{name}");
             }
         }
     }
 
-    /// Calls that reach little of a mode could not show a fault in it.
+    /// Calls that reach little of a mode or an edition could not show a fault in it.
     #[test]
-    fn lists_are_handed_over_in_every_mode() {
-        let (mut in_mode, mut rounds) = ([0; 3], [0; 3]);
+    fn lists_are_handed_over_in_every_session() {
+        let (mut within, mut rounds) = ([[0; 3]; EDITIONS], [[0; 3]; EDITIONS]);
         for seed in 0..150 {
             let handed = play_round(Rng::new(seed), u64::MAX, Model::new).unwrap();
-            for mode in 0..3 {
-                in_mode[mode] += handed.in_mode[mode];
-                rounds[mode] += u64::from(handed.in_mode[mode] >= 20);
+            for (edition, mode) in (0..EDITIONS).flat_map(|e| [0, 1, 2].map(|m| (e, m))) {
+                let commands = handed.within[edition][mode];
+                within[edition][mode] += commands;
+                rounds[edition][mode] += u64::from(commands >= 20);
             }
         }
-        println!("commands {in_mode:?}, rounds with 20 of them {rounds:?}");
-        let all: u64 = in_mode.iter().sum();
-        assert!(in_mode.iter().all(|n| 4 * n >= all), "{in_mode:?}");
-        assert!(rounds.iter().all(|n| *n >= 50), "{rounds:?}");
+        println!("commands {within:?}, rounds with 20 of them {rounds:?}");
+        let all: u64 = within.iter().flatten().sum();
+        assert!(within.iter().flatten().all(|n| 12 * n >= all), "{within:?}");
+        assert!(rounds.iter().flatten().all(|n| *n >= 25), "{rounds:?}");
     }
 
     /// States of every mood, each with some room behind its records.

@@ -597,4 +597,50 @@ mod tests {
             assert_eq!(console.line(line.as_bytes(), true).unwrap(), due, "{line}");
         }
     }
+
+    /// A live opening is of edition 1; poked to edition 0 and restored, the session goes on with no gap between these pairs.
+    #[test]
+    fn a_session_of_edition_0() {
+        let opening = crate::generate::opening_a().replacen("4 1 0", "1 2 2", 1);
+        let mut console = Console::new();
+        for (line, due) in [
+            (opening.as_str(), "open 0"),
+            ("bytes 48 2", "bytes 0100"),
+            ("offer PREPB 1 9 10", "offer 0 10 0"),
+            ("ask REFAB 0 0", "ask 0 11 0"),
+            ("ask REFAB 1 0", "ask 0 31 15"),
+            ("offer REFAB 1 0 30", "offer 7 31 15"),
+            ("burst PREAB 0 0 11 REFPB 0 4 31", "burst 1 7 32 15"),
+            ("poke 48 0", "poke 48 0"),
+            ("ask REFPB 0 4", "ask 0 32 15"),
+            ("restore 192", "restore 0 0"),
+            ("ask REFPB 0 4", "ask 0 12 0"),
+            ("offer REFAB 1 0 12", "offer 0 12 0"),
+            ("burst REFPB 0 4 13 REFPB 0 4 14", "burst 1 7 153 18"),
+            ("back", "back 0"),
+            ("status", "status 0 7 0 3 3 12 6"),
+            ("bytes 48 2", "bytes 0000"),
+            ("poke 48 1", "poke 48 1"),
+            ("restore 384", "restore 11 3"),
+            ("restore 192", "restore 0 0"),
+            ("offer REFAB 1 0 30", "offer 7 31 15"),
+            ("poke 48 2", "poke 48 2"),
+            ("restore 192", "restore 11 0"),
+            ("ask REFAB 1 0", "ask 1 0 0"),
+            ("poke 48 0", "poke 48 0"),
+            ("poke 49 1", "poke 49 1"),
+            ("restore 64", "restore 11 0"),
+            ("poke 49 0", "poke 49 0"),
+            ("restore 384", "restore 0 0"),
+            (&opening, "open 0"),
+            ("bytes 432 2", "bytes 0100"),
+            ("bytes 48 2", "bytes 0000"),
+            ("burst PREAB 0 0 0 REFPB 0 15 20", "burst 1 7 21 15"),
+            ("restore 384", "restore 0 0"),
+            ("ask REFAB 0 0", "ask 0 32 15"),
+            ("ask REFPB 0 15", "ask 0 13 0"),
+        ] {
+            assert_eq!(console.line(line.as_bytes(), true).unwrap(), due, "{line}");
+        }
+    }
 }

@@ -4,15 +4,21 @@
 
 use crate::console::{Console, JOURNAL, LONGEST_LINE};
 use crate::model::{
-    bytes_of, Command, Record, State, ACT, LAST_CYCLE, NAMES, PREAB, PREPB, RD, RECORD, REFAB,
-    REFPB, WR,
+    bytes_of, Command, Record, State, ACT, LAST_CYCLE, NAMES, NEWEST_EDITION, PREAB, PREPB, RD,
+    RECORD, REFAB, REFPB, WR,
 };
 use crate::sheet_calls::{any_sheet, malformed_gaps_line, sheet_of};
 
 mod bursts;
-mod modes;
+mod openings;
 
-pub use modes::{in_mode, LIVE_MODES};
+pub use openings::{
+    any_opening, bad_opening, in_mode, older, precharge_and_refresh, reopened, Change, Reopened,
+    EDITION_AT, LIVE_MODES, MODE_AT,
+};
+
+#[cfg(test)]
+pub(crate) use openings::new_pair;
 
 /// Whether scripts and steps have `gaps` lines: once the programs under test know the form.
 pub const GAPS_LINES: bool = true;
@@ -274,8 +280,10 @@ enum Act {
     Bytes,
     Open,
     OpenBadly,
-    OtherMode,
+    OtherOpening,
+    SpoilOpening,
     Columns,
+    Refreshes,
     Lend,
     FillRoom,
     Cut,
@@ -523,7 +531,7 @@ impl Player {
         let profile = match self.mood {
             Mood::FourActivates => 7,
             Mood::Limit if self.rng.chance(50) => 3,
-            _ => self.rng.below(12),
+            _ => self.rng.below(14),
         };
         match profile {
             0 => gaps = SETTINGS_A,
@@ -572,11 +580,20 @@ impl Player {
                 gaps.fill_with(|| self.rng.below(5) as u16);
                 gaps[0] = self.rng.below(12) as u16;
                 gaps[1] = self.rng.below(6) as u16;
+                gaps[14] = self.rng.below(24) as u16;
                 gaps[19] = self.rng.between(3, 70) as u16;
             }
             8 => {}
             9 => gaps.fill_with(|| self.rng.below(300) as u16),
             10 => gaps = [65_535; 20],
+            11 | 12 => {
+                // A precharge of all banks is longer than a refresh.
+                gaps = SETTINGS_A;
+                gaps[14] = self.rng.between(40, 400) as u16;
+                for refresh in [16, 17, 18] {
+                    gaps[refresh] = self.rng.below(60) as u16;
+                }
+            }
             _ => {
                 gaps.fill_with(|| (4 * self.rng.below(12) + self.rng.pick(&[0, 1, 3])) as u16);
             }
@@ -669,8 +686,11 @@ impl Player {
     fn begin(&mut self, answer: Option<String>) {
         if answer.as_deref() == Some("open 0") {
             self.new_habits();
-            if self.rng.chance(26) {
-                self.begin_in_mode_1();
+            if self.rng.chance(50) {
+                self.begin_older();
+            }
+            if self.rng.chance(30) {
+                self.refreshes();
             }
             if self.mood == Mood::Limit {
                 self.go_to_the_limit();
@@ -754,7 +774,7 @@ impl Player {
         }
         if which & 4 != 0 {
             let edge = self.rng.pick(&EDGES);
-            mode = self.rng.pick(&[1, 1, 3, 256, 257, 258, 1 << 32, edge]);
+            mode = self.rng.pick(&[1, 3, 3, 256, 257, 258, 1 << 32, edge]);
         }
         self.open_with(ratio, ranks, mode);
         if self.rng.chance(40) {
@@ -1168,7 +1188,7 @@ impl Player {
             return vec![(0, byte)];
         }
         match old[0] {
-            1 => match self.rng.below(12) {
+            1 => match self.rng.below(13) {
                 0 | 1 => vec![(1, self.rng.pick(&[0, 1, 2, 3, 4, 5, 8, 255]))],
                 2 | 3 => vec![(2, self.rng.pick(&[0, 1, 2, 3, 255]))],
                 4 | 5 => vec![(3, self.rng.pick(&[0, 1, 2, 3, 255]))],
@@ -1180,7 +1200,8 @@ impl Player {
                     let at = self.rng.between(8, 47) as usize;
                     vec![(at, near(&mut self.rng, old[at]))]
                 }
-                9 => vec![(self.rng.pick(&[48, 63]), self.rng.pick(&[1, 128, 255]))],
+                9 => vec![(self.rng.pick(&[49, 63]), self.rng.pick(&[1, 128, 255]))],
+                10 => vec![(EDITION_AT, self.rng.pick(&[0, 1, 2, 3, 255]))],
                 _ => {
                     let at = self.rng.between(48, 63) as usize;
                     vec![(at, self.rng.between(1, 255) as u8)]
@@ -1313,11 +1334,11 @@ impl Player {
             };
         }
         let word = self.kind_word(kind);
-        match self.rng.below(12) {
-            0..=2 => {
+        match self.rng.below(13) {
+            0..=3 => {
                 self.say(&format!("ask {word} {rank} {bank}"));
             }
-            3..=8 => {
+            4..=9 => {
                 let last = self.last();
                 // Often a second refusal, so that their order shows.
                 let cycle = match self.rng.below(6) {
@@ -1330,7 +1351,7 @@ impl Player {
                 };
                 self.offer_at((kind, rank, bank), cycle);
             }
-            9 => {
+            10 => {
                 let bytes = edge(&mut self.rng);
                 self.say(&format!("lend {bytes}"));
                 self.stretch();
@@ -1338,7 +1359,7 @@ impl Player {
                     self.say(&format!("lend {}", u64::MAX));
                 }
             }
-            10 => {
+            11 => {
                 let end = 64 * self.count();
                 let bytes = edge(&mut self.rng);
                 self.restore_at(bytes);
@@ -1693,8 +1714,10 @@ impl Player {
                 (Status, 2),
                 (Bytes, 2),
                 (Stretch, 1),
-                (OtherMode, 1),
+                (OtherOpening, 1),
+                (SpoilOpening, 1),
                 (Columns, 3),
+                (Refreshes, 4),
             ],
             Mood::SecondThoughts => &[
                 (Offer, 40),
@@ -1707,8 +1730,10 @@ impl Player {
                 (Status, 4),
                 (CutAndReturn, 1),
                 (Open, 1),
-                (OtherMode, 1),
+                (OtherOpening, 1),
+                (SpoilOpening, 1),
                 (Columns, 3),
+                (Refreshes, 4),
             ],
             Mood::Deep => &[
                 (Run, 20),
@@ -1718,8 +1743,10 @@ impl Player {
                 (Status, 2),
                 (CutAndReturn, 1),
                 (Open, 1),
-                (OtherMode, 1),
+                (OtherOpening, 1),
+                (SpoilOpening, 1),
                 (Columns, 2),
+                (Refreshes, 3),
             ],
             Mood::Clients => &[
                 (Offer, 50),
@@ -1734,8 +1761,10 @@ impl Player {
                 (CutAndReturn, 4),
                 (Damage, 1),
                 (Lend, 1),
-                (OtherMode, 3),
+                (OtherOpening, 3),
+                (SpoilOpening, 1),
                 (Columns, 3),
+                (Refreshes, 4),
             ],
             Mood::TwoRanks => &[
                 (Offer, 60),
@@ -1747,8 +1776,10 @@ impl Player {
                 (Status, 2),
                 (CutAndReturn, 1),
                 (Open, 1),
-                (OtherMode, 1),
+                (OtherOpening, 1),
+                (SpoilOpening, 1),
                 (Columns, 3),
+                (Refreshes, 4),
             ],
             Mood::FourActivates => &[
                 (Offer, 50),
@@ -1759,8 +1790,10 @@ impl Player {
                 (Status, 1),
                 (CutAndReturn, 1),
                 (Open, 2),
-                (OtherMode, 1),
+                (OtherOpening, 1),
+                (SpoilOpening, 1),
                 (Columns, 2),
+                (Refreshes, 3),
             ],
             Mood::Limit => &[
                 (Offer, 40),
@@ -1774,8 +1807,10 @@ impl Player {
                 (CutAndReturn, 2),
                 (Damage, 1),
                 (Open, 6),
-                (OtherMode, 2),
+                (OtherOpening, 2),
+                (SpoilOpening, 1),
                 (Columns, 2),
+                (Refreshes, 3),
             ],
             Mood::Room => &[
                 (Offer, 20),
@@ -1789,8 +1824,10 @@ impl Player {
                 (FillRoom, 10),
                 (Cut, 2),
                 (CutAndReturn, 2),
-                (OtherMode, 2),
+                (OtherOpening, 2),
+                (SpoilOpening, 1),
                 (Columns, 2),
+                (Refreshes, 3),
             ],
             Mood::Cuts => &[
                 (Offer, 40),
@@ -1806,8 +1843,10 @@ impl Player {
                 (Lend, 1),
                 (Cut, 5),
                 (CutAndReturn, 12),
-                (OtherMode, 2),
+                (OtherOpening, 2),
+                (SpoilOpening, 1),
                 (Columns, 2),
+                (Refreshes, 3),
             ],
             Mood::Damage => &[
                 (Offer, 40),
@@ -1820,8 +1859,10 @@ impl Player {
                 (Open, 2),
                 (CutAndReturn, 2),
                 (Damage, 16),
-                (OtherMode, 3),
+                (OtherOpening, 3),
+                (SpoilOpening, 1),
                 (Columns, 2),
+                (Refreshes, 3),
             ],
             Mood::Malformed => &[
                 (Offer, 25),
@@ -1830,8 +1871,10 @@ impl Player {
                 (Status, 4),
                 (Open, 1),
                 (Malformed, 50),
-                (OtherMode, 1),
+                (OtherOpening, 1),
+                (SpoilOpening, 1),
                 (Columns, 2),
+                (Refreshes, 3),
             ],
             Mood::Wild => &[
                 (Offer, 25),
@@ -1844,8 +1887,10 @@ impl Player {
                 (Wild, 40),
                 (Malformed, 3),
                 (Lend, 2),
-                (OtherMode, 2),
+                (OtherOpening, 2),
+                (SpoilOpening, 1),
                 (Columns, 2),
+                (Refreshes, 3),
             ],
             Mood::Mixed => &[
                 (Offer, 60),
@@ -1867,8 +1912,10 @@ impl Player {
                 (Damage, 3),
                 (Malformed, 6),
                 (Wild, 5),
-                (OtherMode, 3),
+                (OtherOpening, 3),
+                (SpoilOpening, 1),
                 (Columns, 3),
+                (Refreshes, 4),
             ],
         }
     }
@@ -1900,8 +1947,10 @@ impl Player {
             Act::Bytes => self.bytes(),
             Act::Open => self.open(),
             Act::OpenBadly => self.open_badly(),
-            Act::OtherMode => self.other_mode(),
+            Act::OtherOpening => self.other_opening(),
+            Act::SpoilOpening => self.spoil_opening(),
             Act::Columns => self.columns(),
+            Act::Refreshes => self.refreshes(),
             Act::Lend => self.lend(),
             Act::FillRoom => self.fill_room(),
             Act::Cut => self.cut(),
@@ -2029,14 +2078,17 @@ pub enum Bad {
     OtherByte0,
     Spare,
     OtherOpening,
+    /// An opening of an edition that nobody knows.
+    UnknownEdition,
     /// Content that the live call would refuse with this number.
     Refused(u64),
 }
 
-pub const BADS: [Bad; 12] = [
+pub const BADS: [Bad; 13] = [
     Bad::OtherByte0,
     Bad::Spare,
     Bad::OtherOpening,
+    Bad::UnknownEdition,
     Bad::Refused(1),
     Bad::Refused(2),
     Bad::Refused(3),
@@ -2079,7 +2131,7 @@ pub fn spoil(rng: &mut Rng, good: &[u8], way: Bad) -> Option<(Vec<u8>, usize)> {
         }
         Bad::Spare => {
             let spare: Vec<usize> = match record[0] {
-                1 => (48..64).collect(),
+                1 => (49..64).collect(),
                 2 => (16..64).collect(),
                 _ => (1..4).chain(8..64).collect(),
             };
@@ -2109,6 +2161,13 @@ pub fn spoil(rng: &mut Rng, good: &[u8], way: Bad) -> Option<(Vec<u8>, usize)> {
                 return None;
             }
             record[4..8].copy_from_slice(&wrong.to_le_bytes());
+        }
+        Bad::UnknownEdition => {
+            let opening = session?.1;
+            record = bytes_of(&Record::Opening(opening), 0).to_vec();
+            let unknown = NEWEST_EDITION as u8 + 1;
+            let any = rng.between(u64::from(unknown), 255) as u8;
+            record[EDITION_AT] = rng.pick(&[unknown, unknown, 255, any]);
         }
         Bad::Refused(1) => {
             // A journal that begins with no opening.
@@ -2161,6 +2220,20 @@ pub fn spoil(rng: &mut Rng, good: &[u8], way: Bad) -> Option<(Vec<u8>, usize)> {
         Bad::Refused(7) => {
             let after_last = last? + 1;
             let ranks = session?.1.ranks;
+            if rng.chance(30) {
+                // Behind a precharge that is put before it.
+                let rank = rng.below(ranks);
+                let (first, (kind, bank)) = precharge_and_refresh(rng, &state, rank);
+                let mut played = state.clone();
+                played.records.push(Record::Command(first));
+                let (earliest, gap) = played.earliest(kind, rank, bank);
+                let early = earliest as u64 - 1;
+                if gap != 0 && early <= LAST_CYCLE {
+                    front.extend(command(first.kind, rank, first.bank, first.cycle));
+                    record = command(kind, rank, bank, early);
+                    return joined(front, record, good, at);
+                }
+            }
             for _ in 0..40 {
                 let kind = rng.between(1, 7);
                 let bank = match kind {
@@ -2209,7 +2282,7 @@ mod tests {
     use super::*;
     use crate::sheet::Sheet;
     use crate::sheet_calls::wrong;
-    use std::collections::BTreeMap;
+    use std::collections::{BTreeMap, BTreeSet};
 
     const NO_FORMS: Forms = Forms {
         gaps: false,
@@ -2422,6 +2495,7 @@ mod tests {
     fn spoiled_records_are_bad() {
         let mut rng = Rng::new(3);
         let mut made = [0; BADS.len()];
+        let mut new_pairs = BTreeSet::new();
         for seed in 0..39 {
             let good = script(seed, 200).good;
             for (i, way) in BADS.iter().enumerate() {
@@ -2433,6 +2507,14 @@ mod tests {
                 assert_eq!((number, bad), (11, at), "{way:?}");
                 let (_, _, mut state) = State::restore(&journal[..RECORD * at]);
                 let record = &journal[RECORD * at..RECORD * (at + 1)];
+                if *way == Bad::Refused(7) {
+                    let Command {
+                        kind, rank, bank, ..
+                    } = Command::in_record(record);
+                    let edition = state.session().map(|s| s.1.edition);
+                    let pair = new_pair(&state, kind, rank, bank);
+                    new_pairs.extend(pair.filter(|_| edition == Some(NEWEST_EDITION)));
+                }
                 let mut lent = vec![0; RECORD * (at + 1)];
                 let live = match record[0] {
                     1 => {
@@ -2455,5 +2537,6 @@ mod tests {
             }
         }
         assert!(made.iter().all(|n| *n >= 5), "{made:?}");
+        assert_eq!(new_pairs.len(), 2, "{new_pairs:?}");
     }
 }

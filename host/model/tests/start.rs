@@ -5,7 +5,7 @@ use rossinhiu_model::console::JOURNAL;
 use rossinhiu_model::file::{steps, FileConsole};
 use rossinhiu_model::generate::{opening_a, Rng, SETTINGS_A};
 use rossinhiu_model::harness::*;
-use rossinhiu_model::model::{bytes_of, Opening, Record, RECORD};
+use rossinhiu_model::model::{bytes_of, Opening, Record, NEWEST_EDITION, RECORD};
 use std::fs;
 use std::os::unix::fs::{MetadataExt, PermissionsExt};
 use std::os::unix::process::CommandExt;
@@ -34,6 +34,7 @@ fn one_opening() -> Vec<u8> {
         mode: 0,
         client: 7,
         gaps: SETTINGS_A,
+        edition: NEWEST_EDITION,
     };
     bytes_of(&Record::Opening(opening), 0).to_vec()
 }

@@ -3,7 +3,7 @@
 use rossinhiu::ffi::{Burst, Command, Numbers, Offered, Restored, Session};
 
 extern "C" {
-    fn rossinhiu_offer_2_before(
+    fn rossinhiu_offer_before(
         session: Session,
         journal: *mut u8,
         size: usize,
@@ -12,15 +12,15 @@ extern "C" {
         bank: u64,
         cycle: u64,
     ) -> Offered;
-    fn rossinhiu_offer_all_2_before(
+    fn rossinhiu_offer_all_before(
         session: Session,
         journal: *mut u8,
         size: usize,
         commands: *const Command,
         listed: usize,
     ) -> Burst;
-    fn rossinhiu_earliest_2_before(session: Session, kind: u64, rank: u64, bank: u64) -> Numbers;
-    fn rossinhiu_restore_2_before(journal: *const u8, size: usize) -> Restored;
+    fn rossinhiu_earliest_before(session: Session, kind: u64, rank: u64, bank: u64) -> Numbers;
+    fn rossinhiu_restore_before(journal: *const u8, size: usize) -> Restored;
 }
 
 pub fn offer(
@@ -32,7 +32,7 @@ pub fn offer(
     cycle: u64,
 ) -> Numbers {
     let (at, size) = (journal.as_mut_ptr(), journal.len());
-    let done = unsafe { rossinhiu_offer_2_before(*session, at, size, kind, rank, bank, cycle) };
+    let done = unsafe { rossinhiu_offer_before(*session, at, size, kind, rank, bank, cycle) };
     *session = done.session;
     Numbers {
         number: done.number,
@@ -48,17 +48,17 @@ pub fn offer_all(
 ) -> (u64, Numbers) {
     let (at, size) = (journal.as_mut_ptr(), journal.len());
     let (from, listed) = (commands.as_ptr(), commands.len());
-    let done = unsafe { rossinhiu_offer_all_2_before(*session, at, size, from, listed) };
+    let done = unsafe { rossinhiu_offer_all_before(*session, at, size, from, listed) };
     *session = done.session;
     let (number, cycle, gap) = (done.number, done.cycle, done.gap);
     (done.count, Numbers { number, cycle, gap })
 }
 
 pub fn earliest(session: &Session, kind: u64, rank: u64, bank: u64) -> Numbers {
-    unsafe { rossinhiu_earliest_2_before(*session, kind, rank, bank) }
+    unsafe { rossinhiu_earliest_before(*session, kind, rank, bank) }
 }
 
 pub fn restore(journal: &[u8]) -> (Session, u64, u64) {
-    let done = unsafe { rossinhiu_restore_2_before(journal.as_ptr(), journal.len()) };
+    let done = unsafe { rossinhiu_restore_before(journal.as_ptr(), journal.len()) };
     (done.session, done.number, done.record)
 }

@@ -48,19 +48,30 @@ fn played(state: &mut ffi::Session, bytes: &mut [u8], dice: &mut Dice) -> Comman
     c
 }
 
-/// The mode of every opening: 2, or what ROSSINHIU_MODE says. An archive from before mode 2 stands beside this one's in mode 1.
-fn mode() -> u8 {
-    let given = std::env::var("ROSSINHIU_MODE").ok();
-    given.map_or(2, |mode| mode.parse().expect("ROSSINHIU_MODE is a mode"))
+/// The mode and the edition of every opening: 2 and 1, or what ROSSINHIU_MODE and ROSSINHIU_EDITION say. An archive from before mode 2 stands
+/// beside this one's in mode 1, one from before the editions in edition 0.
+fn said(name: &str, otherwise: u8) -> u8 {
+    let given = std::env::var(name).ok();
+    given.map_or(otherwise, |n| n.parse().expect("a number below 256"))
 }
 
-/// An opening; one of mode 1, which is not opened any more, as an old record has it.
+fn mode() -> u8 {
+    said("ROSSINHIU_MODE", 2)
+}
+
+fn edition() -> u8 {
+    said("ROSSINHIU_EDITION", 1)
+}
+
+/// An opening; one of mode 1 or an edition that is not opened any more, as an old record has it.
 fn open(state: &mut ffi::Session, bytes: &mut [u8]) {
     let at = state.progress.records as usize * RECORD;
     let number = twin::open(state, bytes, (RATIO, RANKS, 2), 7, &SETTINGS_A);
     assert_eq!(number, 0);
     bytes[at + 3] = mode();
+    bytes[at + 48] = edition();
     state.terms.opening.mode = mode();
+    state.terms.opening.edition = edition();
 }
 
 /// A journal of so many records: an opening at every 10,000th, a take-back once in so many.

@@ -11,6 +11,7 @@ fn any_state(dice: &mut Dice) -> ffi::Session {
     let mut state = twin::fresh();
     twin::open(&mut state, &mut [0; RECORD], (4, 2, 0), 7, &SETTINGS_A);
     state.terms.opening.mode = dice.below(3) as u8;
+    state.terms.opening.edition = dice.below(2) as u8;
     let most = [1, 4, 40, 4000, 1 << 40][dice.below(5) as usize];
     for kept in state.last.iter_mut().chain(&mut state.progress.activates) {
         *kept = dice.below(3).min(1) * dice.below(most);
@@ -26,6 +27,7 @@ fn any_state(dice: &mut Dice) -> ffi::Session {
 fn full_scan(state: &ffi::Session, kind: usize, rank: usize, bank: usize) -> (u64, u64) {
     let names_none = |kind| kind == 4 || kind == 5;
     let mode = state.terms.opening.mode as usize;
+    let edition = state.terms.opening.edition as usize;
     let group = |bank| bank / if mode == 2 { 4 } else { 2 };
     let mut asks = vec![(state.progress.latest, 0)];
     let mut add = |kept: u64, gap: usize| {
@@ -40,7 +42,7 @@ fn full_scan(state: &ffi::Session, kind: usize, rank: usize, bank: usize) -> (u6
         } else {
             usize::from(other != bank) + usize::from(group(other) != group(bank))
         };
-        let place = ((mode * 3 + class) * 7 + first) * 7 + kind;
+        let place = (((edition * 3 + mode) * 3 + class) * 7 + first) * 7 + kind;
         add(state.last[rank * 112 + i], twin::TABLE[place].into());
     }
     if kind == 0 {

@@ -2,7 +2,8 @@
 
 use super::{padded, Mood, Player, JOURNAL, LIVE_MODES};
 use crate::burst_calls::{
-    activates_for, any_place, burst_line, fullest_line, list_for, malformed_burst_line, Refusal,
+    activates_for, any_place, burst_line, fullest_line, list_for, malformed_burst_line,
+    refreshes_for, Refusal,
 };
 use crate::console::LONGEST_LINE;
 use crate::model::Command;
@@ -29,21 +30,19 @@ impl Player {
         if self.mood == Mood::FourActivates && self.rng.chance(40) {
             return self.window_burst();
         }
-        match self.rng.below(25) {
-            0..=6 => self.refused_burst(),
-            7 | 8 => self.empty_burst(),
-            9 => {
-                let list = self.legal_list(1);
-                self.burst(&list);
-            }
-            10..=12 => self.long_burst(),
-            13 => self.burst_to_the_bottom(),
-            14..=16 => self.burst_without_room(),
-            17 => self.burst_behind_a_back(),
-            18 | 19 => self.burst_and_restore(),
-            20 => self.full_line(),
-            21 => self.fullest_burst(),
-            22 => self.window_burst(),
+        match self.rng.below(29) {
+            0..=7 => self.refused_burst(),
+            8 | 9 => self.empty_burst(),
+            10 => self.burst_of_one(),
+            11..=13 => self.long_burst(),
+            14 => self.burst_to_the_bottom(),
+            15..=17 => self.burst_without_room(),
+            18 => self.burst_behind_a_back(),
+            19 | 20 => self.burst_and_restore(),
+            21 => self.full_line(),
+            22 => self.fullest_burst(),
+            23 => self.window_burst(),
+            24..=26 => self.refresh_burst(),
             _ => self.malformed_burst(),
         }
     }
@@ -116,6 +115,19 @@ impl Player {
         let early = self.rng.between(4, 16) as usize;
         let rank = self.rng.below(self.ranks());
         let list = activates_for(&mut self.rng, &self.console.state, rank, (length, early));
+        self.burst(&list);
+    }
+
+    /// Precharges, each with a refresh of the other kind behind it.
+    fn refresh_burst(&mut self) {
+        let length = self.rng.between(2, 12) as usize;
+        let rank = self.rng.below(self.ranks());
+        let list = refreshes_for(&mut self.rng, &self.console.state, rank, length);
+        self.burst(&list);
+    }
+
+    fn burst_of_one(&mut self) {
+        let list = self.legal_list(1);
         self.burst(&list);
     }
 
@@ -274,6 +286,9 @@ impl Player {
         }
         if self.rng.chance(50) {
             self.refused_burst();
+        }
+        if self.rng.chance(10) {
+            self.burst_of_one();
         }
     }
 }

@@ -117,12 +117,12 @@ use Rattle.bursts.proofs.taken.write_command as write-command
 use Rattle.bursts.proofs.taken.write_command.Symbol as write-command-def
 use Rattle.bursts.proofs.taken.write_command.Symbol.{name as #bursts·taken·write-command}
 use Rattle.bursts.proofs.taken.write_command.Met as write-command-thm
-use Rattle.capi.proofs.list.rossinhiu_offer_all_2.Key.{name as #capi·list·offer-all}
-use Rattle.capi.proofs.list.rossinhiu_offer_all_2 as offer-all
-use Rattle.capi.proofs.list.rossinhiu_offer_all_2.Statement as stated
-use Rattle.capi.proofs.list.rossinhiu_offer_all_2.Code as code
-use Rattle.capi.proofs.list.rossinhiu_offer_all_2.Code.Mir as mir-of
-use Rattle.capi.proofs.list.rossinhiu_offer_all_2.Proof.Turns.{IsSession, IsOffer, IsTaken, IsBurst, cycle-is, answer-is, command-is, stamp-is, stamp-fits, entry-is, next-is, slots-are, entries-are, lastVal, last-is, roundedVal, rounded-is, opening-is, progress-is, terms-is, records-fit, number-fits, burst-is, none-refused, none-is, no-offer, Turn, Nearer, Nearer-wf, starts, Ends, took-here, none-left, offer, one-refused, is-refused, is-accepted, has-room, Written, next}
+use Rattle.capi.proofs.list.rossinhiu_offer_all_3.Key.{name as #capi·list·offer-all}
+use Rattle.capi.proofs.list.rossinhiu_offer_all_3 as offer-all
+use Rattle.capi.proofs.list.rossinhiu_offer_all_3.Statement as stated
+use Rattle.capi.proofs.list.rossinhiu_offer_all_3.Code as code
+use Rattle.capi.proofs.list.rossinhiu_offer_all_3.Code.Mir as mir-of
+use Rattle.capi.proofs.list.rossinhiu_offer_all_3.Proof.Turns.{IsSession, IsOffer, IsTaken, IsBurst, cycle-is, answer-is, command-is, stamp-is, stamp-fits, entry-is, next-is, slots-are, entries-are, lastVal, last-is, roundedVal, rounded-is, opening-is, progress-is, terms-is, records-fit, number-fits, burst-is, none-refused, none-is, no-offer, Turn, Nearer, Nearer-wf, starts, Ends, took-here, none-left, offer, one-refused, is-refused, is-accepted, has-room, Written, next}
 
 abbrev stayed : Stays (offer-all.ended .signature .params) (offer-all.ended .kept)
 stayed = (stay-none (λ _. S.the-row) yes, (stay-slice (0 ∷ []) tt (slot (λ _. u8)), (stay-none-slice (1 ∷ []) tt (slot (λ _. O.the-row)) yes, tt)))
@@ -670,9 +670,9 @@ module _ {M : Type 1} (𝓤 : URA M) (H : Heap 𝓤) (A : Atoms 𝓤) (W : Given
       (goes-none 𝓤 H A W 2 (λ _. S.the-row) yes (λ κs x f. refl), (goes-slice 𝓤 H A W 2 0 tt (slot (λ _. u8)), (goes-none-slice 𝓤 H A W 2 (1 ∷ []) tt (slot (λ _. O.the-row)) yes, tt)))
       (offer-all.clauses 𝓤 H A at-mem run) (WpFn 𝓤 H (𝓣 .C) (𝓣 .Λ) code.function) (WpFn-mono 𝓤 H (W .laws) 𝓣 code.function) walks
 
-pub rossinhiu-offer-all-2-spec : {M : Type 1} → stated.statement M
+pub rossinhiu-offer-all-3-spec : {M : Type 1} → stated.statement M
 unfolding code.routine tablesOf
-rossinhiu-offer-all-2-spec 𝓤 H 𝓜 𝓖 𝓡 =
+rossinhiu-offer-all-3-spec 𝓤 H 𝓜 𝓖 𝓡 =
     entered 𝓤 H (tripleOf 𝓤 H (𝓖 .A) offer-all.signature (offer-all.spec 𝓤 H (𝓖 .A) (𝓜 .mem) (𝓡 .run)))
     (tables 𝓤 H 𝓜 𝓡 code.env .C) (tables 𝓤 H 𝓜 𝓡 code.env .Λ) #capi·list·offer-all code.function (code.unfolded 𝓤 H 𝓜 𝓡)
     (meets 𝓤 H (𝓖 .A) (givenOf 𝓤 H 𝓜 𝓖) (𝓜 .mem) (𝓡 .run) (tablesOf 𝓤 H 𝓜 (tables 𝓤 H 𝓜 𝓡 code.env))

@@ -1,0 +1,28 @@
+-- The editions of the rules: what each adds, and which is the newest. A later edition includes the earlier ones.
+use mathlib.Core.Bool.{Bool}
+use Prim.Native.Nat.{ℕ, suc}
+use lib.Dec.{leb}
+use Rattle.timing.specs.declared.rules.Opening.{Opening}
+
+-- edition 0: document 01
+abbrev pub documentOne : ℕ
+documentOne = 0
+
+-- edition 1, request 2026-05: a precharge of one kind holds back a refresh of the other
+abbrev pub anyPrecharge : ℕ
+anyPrecharge = 1
+
+-- a live opening writes the newest
+abbrev pub newest : ℕ
+newest = anyPrecharge
+
+abbrev pub editionCount : ℕ
+editionCount = suc newest
+
+-- the opening's edition has what an edition added
+abbrev pub has : Opening → ℕ → Bool
+has o edition = leb edition (o .edition)
+
+-- an edition that the program knows
+abbrev pub knownEdition : ℕ → Bool
+knownEdition edition = leb edition newest
