@@ -9,3 +9,4 @@ pub mod ListingLaws
 pub mod NamedLaws
 pub mod OutcomeLaws
 pub mod BurstRuns
+pub mod ScalingLaws

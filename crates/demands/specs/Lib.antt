@@ -6,3 +6,4 @@ pub mod Alike
 pub mod Listings
 pub mod Named
 pub mod Bursts
+pub mod Scaling

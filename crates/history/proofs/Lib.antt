@@ -3,3 +3,4 @@ pub mod StandingLaws
 pub mod AnswerLaws
 pub mod KCases
 pub mod StruckLaws
+pub mod ScaledLaws

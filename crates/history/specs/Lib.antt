@@ -1,4 +1,5 @@
 pub mod Records
 pub mod Answers
 pub mod Struck
+pub mod Scaled
 pub mod Cases

@@ -20,11 +20,11 @@ use Rattle.timing.proofs.TableLaws.{numbers-within, all-numbered}
 use Rattle.timing.proofs.Truth.{and-left, and-right, both, true-is, false-is, is-true}
 
 -- membership in a mapped list
-map-in {ℓ κ} : {A : Type ℓ} {B : Type κ} (f : A → B) (xs : List A) {x : A} → List·Memᴰ x xs → List·Memᴰ (f x) (map f xs)
+pub map-in {ℓ κ} : {A : Type ℓ} {B : Type κ} (f : A → B) (xs : List A) {x : A} → List·Memᴰ x xs → List·Memᴰ (f x) (map f xs)
 map-in f [] m = absurd (List·Memᴰ·not-nil m)
 map-in f (y ∷ ys) m = ⊎-elim (λ e. List·Memᴰ·head (ap f e)) (λ m′. List·Memᴰ·tail (map-in f ys m′)) (List·Memᴰ·cases-cons m)
 
-map-out {ℓ κ} : {A : Type ℓ} {B : Type κ} (f : A → B) (xs : List A) {b : B} → List·Memᴰ b (map f xs) → (x : A) × List·Memᴰ x xs × (b ≡ f x)
+pub map-out {ℓ κ} : {A : Type ℓ} {B : Type κ} (f : A → B) (xs : List A) {b : B} → List·Memᴰ b (map f xs) → (x : A) × List·Memᴰ x xs × (b ≡ f x)
 map-out f [] m = absurd (List·Memᴰ·not-nil m)
 map-out f (y ∷ ys) {b} m =
     ⊎-elim (λ (e : b ≡ f y). (y, List·Memᴰ·head refl, e))

@@ -4,6 +4,7 @@ pub mod KindLaws
 pub mod Legal
 pub mod Lookup
 pub mod Rounding
+pub mod ScaledLaws
 pub mod TableLaws
 pub mod EditionLaws
 pub mod Ties

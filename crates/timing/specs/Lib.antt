@@ -4,3 +4,4 @@ pub mod Editions
 pub mod Rules
 pub mod Table
 pub mod Earliest
+pub mod Scaled
