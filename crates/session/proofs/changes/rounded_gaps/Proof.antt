@@ -1,9 +1,10 @@
 -- `rounded_gaps` meets its contract: the loop fills the rounded gaps from the front.
-use mathlib.Core.Path.{_≡_, _∙_}
+use mathlib.Core.Path.{_≡_, _∙_, ap}
 use Prim.Native.Nat.{_≤_, _-_}
 use lib.ListN.{take, length, length-set}
 use native.Mathlib.Omega.{arith}
 use borrow.Author.Needs.{needs}
+use Rattle.timing.specs.declared.clocks.Converted.{Converted}
 use Rattle.timing.specs.Clocks.{cycles, roundedUp}
 use Rattle.timing.proofs.Fill.{fill-more, fill-all}
 use Rattle.session.specs.State.{roundedGaps}
@@ -26,8 +27,8 @@ mul-gap c = search needs
 array-copy-out-gap : tie.Need-array-copy-out-gap Inv-loop μ-loop
 array-copy-out-gap c = search needs
 
-rounded-requires : tie.Need-rounded-requires Inv-loop μ-loop
-rounded-requires c κs = search needs
+converted-requires : tie.Need-converted-requires Inv-loop μ-loop
+converted-requires c κs = search needs
 
 mul-rounded : tie.Need-mul-rounded Inv-loop μ-loop
 mul-rounded c = search needs
@@ -43,13 +44,13 @@ loop-less c = search needs
 
 loop-again : tie.Need-loop-again Inv-loop μ-loop
 loop-again c =
-    let a = c .before .before .before .before .args in
-    let l = c .before .before .before .loop in
-    let size = rounded-size (a .opening) (a .t2) ∙ c .before .before .before .before .good .1 .0 .1 .0 .1 in (
+    let a = c .before .before .before .before .before .args in
+    let l = c .before .before .before .before .loop in
+    let size = rounded-size (a .opening) (a .t2) ∙ c .before .before .before .before .before .good .1 .0 .1 .0 .1 in (
       omega arith,
       simp length-set (l .inv .1),
-      fill-more (cycles (roundedUp (a .opening) (record { 0 = 0 }))) (l .rounded) (roundedGaps (a .opening) (a .t2)) (l .i) (c .rounded .result) (omega arith) (omega arith)
-          (l .inv .2) (c .rounded .ensures ∙ rounded-at (a .opening) (a .t2) (l .i)),
+      fill-more (cycles (roundedUp (a .opening) (record { 0 = 0 }))) (l .rounded) (roundedGaps (a .opening) (a .t2)) (l .i) (c .before .converted .result .rounded) (omega arith) (omega arith)
+          (l .inv .2) (ap (λ (x : Converted). x .rounded) (c .before .converted .ensures) ∙ rounded-at (a .opening) (a .t2) (l .i)),
     )
 
 returns : tie.Need-returns Inv-loop μ-loop
@@ -69,7 +70,7 @@ rounded-gaps-spec =
     loop-holds
     mul-gap
     array-copy-out-gap
-    rounded-requires
+    converted-requires
     mul-rounded
     array-set-from-rounded
     add-i
