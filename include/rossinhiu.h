@@ -34,7 +34,7 @@ extern "C" {
 #endif
 
 /* The number of the layout of the structs below. Each function is exported under its name and this number. */
-#define ROSSINHIU_AS(name) __asm__(name "_3")
+#define ROSSINHIU_AS(name) __asm__(name "_4")
 
 /* Bytes of a record, and the most records that a journal can have. */
 #define ROSSINHIU_RECORD_SIZE 64
@@ -100,6 +100,7 @@ struct rossinhiu_progress {
 /* What the client gave. */
 struct rossinhiu_terms {
     uint64_t rounded[20];
+    uint16_t gaps[20]; /* as they were given, in DRAM cycles */
     struct rossinhiu_opening opening;
     uint32_t number;
     uint8_t is_open;
@@ -159,14 +160,16 @@ struct rossinhiu_opened rossinhiu_open(struct rossinhiu_session session, uint8_t
 
 /*
  * Offers a command at a controller cycle, and writes its record if it is accepted. `bank` is 0 with PREAB and REFAB.
- * number: the first that holds of 1, 2, 3, 4, 5, 6, 7, 9; else 0. With 0, `cycle` is the cycle offered and `gap` is 0. With 7, `cycle`
- * is the earliest legal cycle and `gap` the number of the gap that asks for it. With any other number both are 0.
+ * number: the first that holds of 1, 2, 3, 4, 5, 6, 7, 9; else 0. With 0, `cycle` is the cycle offered, `gap` and `loss` are 0. With
+ * 7, `cycle` is the earliest legal cycle, `gap` the number of the gap that asks for it, and `loss` the DRAM cycles that this gap loses
+ * to rounding: rounded gap times ratio, less the gap; 0 to ratio - 1. With any other number all three are 0.
  */
 struct rossinhiu_offered {
     struct rossinhiu_session session; /* go on from it: with 0 once its record is on the disk; with any other number it is the old one */
     uint64_t number;
     uint64_t cycle;
     uint64_t gap;
+    uint16_t loss;
 };
 struct rossinhiu_offered rossinhiu_offer(struct rossinhiu_session session, uint8_t *journal, size_t size, uint64_t kind,
                                          uint64_t rank, uint64_t bank, uint64_t cycle)
@@ -176,7 +179,7 @@ struct rossinhiu_offered rossinhiu_offer(struct rossinhiu_session session, uint8
  * Offers `listed` commands one after the other, up to the first refusal, as single calls of rossinhiu_offer would: the same state, the
  * same bytes. The state is copied for the call, and not for each command.
  * `count` says how many were accepted; their records stand one behind the other from 64 * (records before the call) on. number,
- * cycle and gap are the first refusal whole, as rossinhiu_offer gives it; all three are 0 if none was refused. Commands behind the
+ * cycle, gap and loss are the first refusal whole, as rossinhiu_offer gives it; all four are 0 if none was refused. Commands behind the
  * refused one are not looked at. With `listed` 0 nothing is asked: 0, even with no session open.
  *
  * After a refusal in the middle: what was accepted stays accepted. Put its records on the disk, go on from the session handed back, and
@@ -198,6 +201,7 @@ struct rossinhiu_burst {
     uint64_t number;
     uint64_t cycle;
     uint64_t gap;
+    uint16_t loss;
 };
 struct rossinhiu_burst rossinhiu_offer_all(struct rossinhiu_session session, uint8_t *journal, size_t size,
                                            const struct rossinhiu_command *commands, size_t listed)
@@ -214,13 +218,14 @@ struct rossinhiu_burst rossinhiu_offer_pieces(struct rossinhiu_session session, 
 /*
  * Asks for the earliest cycle at which a command may stand. Nothing is written.
  * number: the first that holds of 1, 2, 3, 4; else 0. With 0, `cycle` is that cycle, and `gap` the gap that asks for it, or 0 where no
- * gap asks for more than the cycle after the last surviving command. The cycle may be above ROSSINHIU_LAST_CYCLE; it can't be
- * offered then.
+ * gap asks for more than the cycle after the last surviving command; `loss` is what that gap loses to rounding, as with a refused
+ * offer, and 0 with gap 0. The cycle may be above ROSSINHIU_LAST_CYCLE; it can't be offered then.
  */
 struct rossinhiu_answer {
     uint64_t number;
     uint64_t cycle;
     uint64_t gap;
+    uint16_t loss;
 };
 struct rossinhiu_answer rossinhiu_earliest(struct rossinhiu_session session, uint64_t kind, uint64_t rank, uint64_t bank)
     ROSSINHIU_AS("rossinhiu_earliest");

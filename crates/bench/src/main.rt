@@ -46,7 +46,7 @@ fn is_said(said: Said) -> bool {
 fn is_sound(path: &[u8], bytes: &[u8], number: u64, record: u64) -> bool {
     let words = WORDS;
     let row = index_of(&words, b"restore");
-    if !is_said(numbered(row, 2, number, record, 0)) {
+    if !is_said(numbered(row, 2, number, record)) {
         return false;
     }
     if number == 0 {

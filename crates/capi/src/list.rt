@@ -12,10 +12,11 @@ use scan::earliest::gap_steps;
 use scan::earliest::numbers;
 use session::state::Session;
 use timing::clocks::ControllerCycles;
+use timing::clocks::DramCycles;
 use timing::table::table;
 
 #[no_mangle]
-pub extern "C" fn rossinhiu_offer_all_3(
+pub extern "C" fn rossinhiu_offer_all_4(
     mut session: Session,
     journal: &mut [u8],
     offers: &[Offer],
@@ -59,6 +60,7 @@ pub extern "C" fn rossinhiu_offer_all_3(
             number: Answer::ACCEPTED,
             cycle: ControllerCycles(0),
             gap: 0,
+            loss: DramCycles(0),
         },
     }
 }

@@ -6,7 +6,8 @@ use Prim.Native.String.{String}
 use Rattle.text.specs.Text.{text, digits, spaced}
 use Rattle.requests.specs.Words.{sameWord, indexOf}
 use Rattle.requests.specs.Forms.{tableWords, noForm, noLine, wordAt}
-use Rattle.console.specs.Say.{full, lineText}
+use Rattle.history.specs.Answers.{Reply}
+use Rattle.console.specs.Say.{full, burstNumbers, lineText}
 use Rattle.console.specs.Output.{hexText}
 
 unfoldable pub meaning : Unit {0}
@@ -17,9 +18,12 @@ meaning = tt
 abbrev of : String → ℕ
 of word = indexOf (text word) tableWords
 
-too-early : lineText (of "offer") (full (record { number = 7; cycle = 120; gap = 3 })) 0 ≡ text "offer 7 120 3"
+abbrev early : Reply
+early = record { number = 7; cycle = 120; gap = 3; loss = 2 }
+
+too-early : (lineText (of "offer") (full early) 0 ≡ text "offer 7 120 3 2") × (lineText (of "burst") (burstNumbers 5 early) 0 ≡ text "burst 5 7 120 3 2")
 unfolding meaning
-too-early = refl
+too-early = (refl, refl)
 
 bytes-shown : hexText (0 ∷ 175 ∷ []) ≡ text "00af"
 unfolding meaning

@@ -18,34 +18,37 @@ use Rattle.console.specs.Respond.{at, eachFrom, prints, says, called, re
 abbrev pub responseOf : Session → ℕ → Said → Response
 responseOf s lent a = record { session = s; lent = lent; said = a }
 
--- at most three numbers
-abbrev pub numbersOf : ℕ → ℕ → ℕ → ℕ → List ℕ
-numbersOf count a b c = take count (a ∷ b ∷ c ∷ replicate 19 0)
+-- at most two numbers
+abbrev pub numbersOf : ℕ → ℕ → ℕ → List ℕ
+numbersOf count a b = take count (a ∷ b ∷ replicate 20 0)
 
 -- numbers alone
 pub tells-is : (row : ℕ) (ns : List ℕ) (a : Said) (s : Session) (lent : ℕ) (j : List ℕ) → Tells row ns a → Responds (says row ns s lent j) (responseOf s lent a) j
 tells-is row ns a s lent j t =
     record { row = t .0; numbers = t .1; place = t .2; count = t .3; printed = rw (t .3); state = refl; lent = refl; journal = refl }
 
-module _ (row : ℕ) (count a b c : ℕ) (said : Said) (e : said ≡ saidOf row count a b c) where
-  pub says-is : (s : Session) (lent : ℕ) (j : List ℕ) → Responds (says row (numbersOf count a b c) s lent j) (responseOf s lent said) j
-  says-is s lent j = tells-is row _ said s lent j (rw e (refl, refl, refl, refl))
+-- a call's, which saw the first bytes of the journal
+pub called-is : (row : ℕ) (said : Said) (numbers : Reply → List ℕ) (v : Verdict) (before next : Session) (lent : ℕ) (j : List ℕ) (reply : Reply) (bytes : List ℕ) → Left v before (take lent j) reply next bytes → Tells row (numbers reply) said
+    → Responds (called row numbers v before lent j) (responseOf next lent said) (bytes ++ drop lent j)
+called-is row said numbers v before next lent j reply bytes left t = rw (← left .answer, ← left .state, ← left .written) (tells-is row (numbers reply) said next lent (bytes ++ drop lent j) t)
 
-  -- a call's, which saw the first bytes of the journal
-  pub called-is : (numbers : Reply → List ℕ) (v : Verdict) (before next : Session) (lent : ℕ) (j : List ℕ) (reply : Reply) (bytes : List ℕ) → Left v before (take lent j) reply next bytes → numbersOf count a b c ≡ numbers reply
-      → Responds (called row numbers v before lent j) (responseOf next lent said) (bytes ++ drop lent j)
-  called-is numbers v before next lent j reply bytes left is = rw (← left .answer, ← left .state, ← left .written, ← is) (says-is next lent (bytes ++ drop lent j))
+module _ (row : ℕ) (count a b : ℕ) (said : Said) (e : said ≡ saidOf row count a b) where
+  pub few-told : Tells row (numbersOf count a b) said
+  few-told = rw e (refl, refl, refl, refl)
+
+  pub says-is : (s : Session) (lent : ℕ) (j : List ℕ) → Responds (says row (numbersOf count a b) s lent j) (responseOf s lent said) j
+  says-is s lent j = tells-is row _ said s lent j few-told
 
   -- with the journal's bytes behind them
   pub prints-is : (told : Said) (s : Session) (lent from size : ℕ) (j : List ℕ) → told ≡ withBytes said from size → from + size ≤ length j
-      → Responds (prints row (numbersOf count a b c) from (take size (drop from j)) s lent j) (responseOf s lent told) j
+      → Responds (prints row (numbersOf count a b) from (take size (drop from j)) s lent j) (responseOf s lent told) j
   prints-is told s lent from size j f room =
       let left : size ≤ length (drop from j) = simp length-drop (omega arith) in
       rw (f, e)
       (record { row = refl; numbers = refl; place = refl; count = sym (length-take-le size (drop from j) left); printed = refl; state = refl; lent = refl; journal = refl })
 
-pub restores-is : (row : ℕ) (v : RestoredIn) (next : Session) (lent : ℕ) (j : List ℕ) (number at : ℕ) (said : Said) → RestoreLeft v number at next → said ≡ saidOf row 2 number at 0 → Responds (restores row v lent j) (responseOf next lent said) j
-restores-is row v next lent j number at said told e = rw (← told .answer, ← told .beside, ← told .state) (says-is row 2 number at 0 said e next lent j)
+pub restores-is : (row : ℕ) (v : RestoredIn) (next : Session) (lent : ℕ) (j : List ℕ) (number at : ℕ) (said : Said) → RestoreLeft v number at next → said ≡ saidOf row 2 number at → Responds (restores row v lent j) (responseOf next lent said) j
+restores-is row v next lent j number at said told e = rw (← told .answer, ← told .beside, ← told .state) (says-is row 2 number at said e next lent j)
 
 -- as many bytes as the part that is handed back has
 pub stretch-size : (s : Session) (lent : ℕ) (j : List ℕ) (p : Part) (bytes : List ℕ) → p ≡ stretchIn s lent → p .start + p .size ≤ lent → lent ≤ length j

@@ -12,12 +12,12 @@ use Rattle.requests.specs.Forms.{wordAt}
 use Rattle.datasheet.specs.declared.sheet.GapsAnswer.{GapsAnswer}
 use Rattle.console.specs.declared.say.Said.{Said}
 
--- the numbers of a call's answer, alone or with the earliest cycle and its gap; and those of a status
+-- the numbers of a call's answer, alone or with the earliest cycle, its gap and what that loses; and those of a status
 abbrev pub brief : Reply → List ℕ
 brief r = r .number ∷ []
 
 abbrev pub full : Reply → List ℕ
-full r = r .number ∷ r .cycle ∷ r .gap ∷ []
+full r = r .number ∷ r .cycle ∷ r .gap ∷ r .loss ∷ []
 
 abbrev pub statusNumbers : Status → List ℕ
 statusNumbers s = s .number ∷ s .client ∷ s .opening ∷ s .survivors ∷ s .depth ∷ s .last ∷ s .records ∷ []
@@ -44,10 +44,9 @@ saidText a = lineText (a .row) (take (a .count) (a .numbers)) (a .«hex_count»)
 abbrev pub Tells : ℕ → List ℕ → Said → Type 0
 Tells row ns a = (a .row ≡ row) × (take (a .count) (a .numbers) ≡ ns) × (a .«hex_from» ≡ 0) × (a .«hex_count» ≡ 0)
 
--- at most three numbers
-abbrev pub saidOf : ℕ → ℕ → ℕ → ℕ → ℕ → Said
-saidOf row count a b c =
-    record { row = row; count = count; numbers = a ∷ b ∷ c ∷ replicate 19 0; «hex_from» = 0; «hex_count» = 0 }
+-- at most two numbers
+abbrev pub saidOf : ℕ → ℕ → ℕ → ℕ → Said
+saidOf row count a b = record { row = row; count = count; numbers = a ∷ b ∷ replicate 20 0; «hex_from» = 0; «hex_count» = 0 }
 
 abbrev pub withBytes : Said → ℕ → ℕ → Said
 withBytes a from count = record { row = a .row; count = a .count; numbers = a .numbers; «hex_from» = from; «hex_count» = count }

@@ -8,6 +8,7 @@ ghost use Rattle.requests.specs.declared.forms.Request.the-variants as asks;
 ghost use Rattle.datasheet.specs.Sheet.{picoseconds};
 ghost use Rattle.console.specs.Respond.{eachFrom, gapFrom, outcomeIn, outcome, Responds, Says, Answers};
 use crate::say::Said;
+use crate::say::answer_said;
 use crate::say::burst_said;
 use crate::say::gaps_said;
 use crate::say::numbered;
@@ -75,7 +76,7 @@ fn gaps_of(numbers: &[u64; 4096], asking: Asked) -> [DramCycles; 20]
 fn plain(session: Session, lent: usize, row: usize) -> Response
     ensures { λ r. ⌜ Says row [] session lent r ⌝ }
 {
-    let said = numbered(row, 0, 0, 0, 0);
+    let said = numbered(row, 0, 0, 0);
     Response {
         session,
         lent,
@@ -108,7 +109,7 @@ fn to_open(
         gaps,
     );
     let next = done.session;
-    let said = numbered(asking.row, 1, done.number, 0, 0);
+    let said = numbered(asking.row, 1, done.number, 0);
     Response {
         session: next,
         lent,
@@ -133,8 +134,7 @@ fn to_offer(
     let done = offer(session, &mut journal[..lent], kind, rank, bank, cycle);
     let next = done.session;
     let reply = done.answer;
-    let at = reply.cycle;
-    let said = numbered(asking.row, 3, reply.number, at.0, reply.gap);
+    let said = answer_said(asking.row, reply);
     Response {
         session: next,
         lent,
@@ -149,8 +149,7 @@ fn to_ask(session: Session, lent: usize, asking: Asked, numbers: &[u64; 4096]) -
     let rank = nth(numbers, asking, 1);
     let bank = nth(numbers, asking, 2);
     let reply = earliest(session, kind, rank, bank);
-    let at = reply.cycle;
-    let said = numbered(asking.row, 3, reply.number, at.0, reply.gap);
+    let said = answer_said(asking.row, reply);
     Response {
         session,
         lent,
@@ -164,7 +163,7 @@ fn to_back(session: Session, journal: &mut [u8], lent: usize, row: usize) -> Res
 {
     let done = take_back(session, &mut journal[..lent]);
     let next = done.session;
-    let said = numbered(row, 1, done.number, 0, 0);
+    let said = numbered(row, 1, done.number, 0);
     Response {
         session: next,
         lent,
@@ -190,7 +189,7 @@ fn to_stretch(session: Session, journal: &[u8], lent: usize, row: usize) -> Resp
     let place = stretch_place(session, lent);
     let part = stretch(session, &journal[..lent]);
     let size = part.len();
-    let said = with_bytes(numbered(row, 1, size as u64, 0, 0), place.start, size);
+    let said = with_bytes(numbered(row, 1, size as u64, 0), place.start, size);
     Response {
         session,
         lent,
@@ -202,7 +201,7 @@ fn to_lend(session: Session, journal: &[u8], asking: Asked, numbers: &[u64; 4096
     ensures { λ r. ⌜ ((lent : ℕ) → Responds (outcomeIn session (now (journal .entry)) lent asks.Lend (asking .row) (take (asking .count) (now (numbers .entry)))) r (now (journal .entry))) ⌝ }
 {
     let lent = smaller(nth(numbers, asking, 0), journal.len());
-    let said = numbered(asking.row, 1, lent as u64, 0, 0);
+    let said = numbered(asking.row, 1, lent as u64, 0);
     Response {
         session,
         lent,
@@ -216,7 +215,7 @@ fn to_restore(journal: &[u8], lent: usize, asking: Asked, numbers: &[u64; 4096])
     let n = smaller(nth(numbers, asking, 0), journal.len());
     let done = restore(&journal[..n]);
     let next = done.session;
-    let said = numbered(asking.row, 2, done.number, done.record, 0);
+    let said = numbered(asking.row, 2, done.number, done.record);
     Response {
         session: next,
         lent,
@@ -240,7 +239,7 @@ fn to_poke(
     }
     let place = at as usize;
     journal[place] = byte;
-    let said = numbered(asking.row, 2, at, byte as u64, 0);
+    let said = numbered(asking.row, 2, at, byte as u64);
     Response {
         session,
         lent,
@@ -267,7 +266,7 @@ fn to_bytes(
         return plain(session, lent, NO_FORM);
     }
     let said = with_bytes(
-        numbered(asking.row, 0, 0, 0, 0),
+        numbered(asking.row, 0, 0, 0),
         from as usize,
         wanted as usize,
     );

@@ -7,7 +7,7 @@ ghost use Rattle.text.specs.Lines.{IsLine};
 ghost use Rattle.judging.specs.Judged.{replyIn};
 ghost use Rattle.checker.specs.Replies.{knownStatus, statusReplied};
 ghost use Rattle.requests.specs.Forms.{wordAt};
-ghost use Rattle.console.specs.Say.{saidText, saidOf, withBytes, statusNumbers, gapsNumbers, burstNumbers, Tells};
+ghost use Rattle.console.specs.Say.{saidText, saidOf, withBytes, full, statusNumbers, gapsNumbers, burstNumbers, Tells};
 use checker::answers::Status;
 use checker::answers::StatusAnswer;
 use judging::answers::Answer;
@@ -27,14 +27,13 @@ pub struct Said {
 
 const MOST: usize = 22;
 
-// At most three numbers.
-pub fn numbered(row: usize, count: usize, first: u64, second: u64, third: u64) -> Said
-    ensures { λ r. ⌜ r ≡ saidOf row count first second third ⌝ }
+// At most two numbers.
+pub fn numbered(row: usize, count: usize, first: u64, second: u64) -> Said
+    ensures { λ r. ⌜ r ≡ saidOf row count first second ⌝ }
 {
     let mut numbers = [0u64; 22];
     numbers[0] = first;
     numbers[1] = second;
-    numbers[2] = third;
     Said {
         row,
         count,
@@ -83,7 +82,7 @@ pub fn status_said(row: usize, answered: StatusAnswer) -> Said
 {
     match answered {
         StatusAnswer::Known(status) => known(row, status),
-        StatusAnswer::NoSession => numbered(row, 7, 1, 0, 0),
+        StatusAnswer::NoSession => numbered(row, 7, 1, 0),
     }
 }
 
@@ -108,6 +107,25 @@ pub fn gaps_said(row: usize, number: u64, gap: u64, gaps: [DramCycles; 20]) -> S
     }
 }
 
+pub fn answer_said(row: usize, answer: Answer) -> Said
+    ensures { λ r. ⌜ Tells row (full (replyIn answer)) r ⌝ }
+{
+    let mut numbers = [0u64; 22];
+    numbers[0] = answer.number;
+    let cycle = answer.cycle;
+    numbers[1] = cycle.0;
+    numbers[2] = answer.gap;
+    let loss = answer.loss;
+    numbers[3] = loss.0 as u64;
+    Said {
+        row,
+        count: 4,
+        numbers,
+        hex_from: 0,
+        hex_count: 0,
+    }
+}
+
 pub fn burst_said(row: usize, accepted: u64, answer: Answer) -> Said
     ensures { λ r. ⌜ Tells row (burstNumbers accepted (replyIn answer)) r ⌝ }
 {
@@ -117,9 +135,11 @@ pub fn burst_said(row: usize, accepted: u64, answer: Answer) -> Said
     let cycle = answer.cycle;
     numbers[2] = cycle.0;
     numbers[3] = answer.gap;
+    let loss = answer.loss;
+    numbers[4] = loss.0 as u64;
     Said {
         row,
-        count: 4,
+        count: 5,
         numbers,
         hex_from: 0,
         hex_count: 0,

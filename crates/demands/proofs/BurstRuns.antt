@@ -12,7 +12,7 @@ use Rattle.statements.proofs.BurstLaws.{accepted-reply, burst-is-offers}
 use Rattle.demands.specs.Runs.{Event, Run, starts, resumes, moves, fails}
 use Rattle.demands.specs.Reached.{Reached, by-call as reached-by-call}
 use Rattle.demands.specs.Bursts as bursts
-use Rattle.demands.specs.Bursts.{offerCall, acceptedAt, burstEvents, BurstRun}
+use Rattle.demands.specs.Bursts.{offerCall, burstEvents, BurstRun}
 
 -- offers in a row go on from a run
 row-runs : {room : ℕ} {es : List Event} {s next : Session} {first j after : List ℕ} {os : List Offer} {n : ℕ} {reply : Reply}

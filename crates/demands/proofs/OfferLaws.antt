@@ -12,10 +12,10 @@ use Rattle.timing.specs.declared.kinds.MaybeKind.{MaybeKind}
 use Rattle.timing.specs.declared.kinds.MaybeKind.the-variants.{Kind, NoKind}
 use Rattle.timing.specs.declared.rules.Command.{Command}
 use Rattle.timing.specs.Kinds.{kindOf}
-use Rattle.timing.specs.Earliest.{Stamped, Standing, Ask, LaterThanLast, Legal, cycleAfter, floor, earliest}
+use Rattle.timing.specs.Earliest.{Stamped, Standing, Ask, LaterThanLast, Legal, cycleAfter, floor, earliest, Settings}
 use Rattle.timing.proofs.Legal.{legal-from, named-gap}
 use Rattle.history.specs.Records.{Record, opening, command, takeBack, History, Current, closed, session, standing}
-use Rattle.history.specs.Answers.{Refusal, _gives_, firstOf, roomOf, openLines, placeLines, stampLines, afterLines, depthLines, roomLines, offerLines, offerReply, earliestReply, Reply, plain, named, refused, accepted, replyOf, offerCase, earliestCase, offerOn, earliestOn}
+use Rattle.history.specs.Answers.{Refusal, _gives_, firstOf, roomOf, openLines, placeLines, stampLines, afterLines, depthLines, roomLines, offerLines, offerReply, earliestReply, Reply, plain, named, refused, accepted, replyOf, offerCase, earliestCase, offerOn, earliestOn, acceptedAt}
 use Rattle.history.specs.Struck.{open-session, offer, take-back, current, recordsIn}
 use Rattle.history.proofs.AnswerLaws.{first-on}
 use Rattle.session.specs.declared.state.Session.{Session}
@@ -88,7 +88,7 @@ module _ (room count : ℕ) (now : Current) (kind : ℕ) (c : Command) (t : ℕ)
       not-less true e = absurd (omega (arith, ltb-true t (floor st) e, ready .after))
       not-less false e = refl
 
-  means : (early full : Bool) → ltb t (earliest st c .cycle) ≡ early → leb room count ≡ full → OfferMeans room count st c t (replyOf (offerReply (st .number) (earliest st c) c t (number early full)))
+  means : (early full : Bool) → ltb t (earliest st c .cycle) ≡ early → leb room count ≡ full → OfferMeans room count st c t (replyOf (offerReply (st .number) (st .settings) (earliest st c) c t (number early full)))
   means true full e f =
       let late = ltb-true t (earliest st c .cycle) e in
       let not-yet : Legal st c t → ⊥ = λ l. omega (arith, legal-from st c t .0 l, late) in
@@ -97,6 +97,7 @@ module _ (room count : ℕ) (now : Current) (kind : ℕ) (c : Command) (t : ℕ)
         legal = λ p. legal-from st c (earliest st c .cycle) .1 (omega arith);
         smallest = λ p u l. legal-from st c u .0 l;
         gap = λ p. named-gap st c;
+        loss = λ p. refl;
         accepted = ((λ p. absurd (eqb-false 7 0 refl p)), (λ w. absurd (not-yet (w .0))));
         full = ((λ p. absurd (eqb-false 7 9 refl p)), (λ w. absurd (not-yet (w .0))));
       }
@@ -108,6 +109,7 @@ module _ (room count : ℕ) (now : Current) (kind : ℕ) (c : Command) (t : ℕ)
         legal = λ p. absurd (eqb-false 9 7 refl p);
         smallest = λ p u l. absurd (eqb-false 9 7 refl p);
         gap = λ p. absurd (eqb-false 9 7 refl p);
+        loss = λ p. absurd (eqb-false 9 7 refl p);
         accepted = ((λ p. absurd (eqb-false 9 0 refl p)), (λ w. absurd (omega (arith, w .1, leb-true room count f))));
         full = ((λ p. (from, leb-true room count f)), (λ w. refl));
       }
@@ -119,6 +121,7 @@ module _ (room count : ℕ) (now : Current) (kind : ℕ) (c : Command) (t : ℕ)
         legal = λ p. absurd (eqb-false 0 7 refl p);
         smallest = λ p u l. absurd (eqb-false 0 7 refl p);
         gap = λ p. absurd (eqb-false 0 7 refl p);
+        loss = λ p. absurd (eqb-false 0 7 refl p);
         accepted = ((λ p. (from, leb-false room count f)), (λ w. refl));
         full = ((λ p. absurd (eqb-false 0 9 refl p)), (λ w. absurd (omega (arith, w .1, leb-false room count f))));
       }
@@ -152,7 +155,7 @@ module _ (now : Current) (kind : ℕ) (c : Command) (st : Standing) (able : Aska
   found : EarliestMeans st c (earliestCase now (kindOf kind) (c .rank) (c .bank))
   found =
       rw (able .stands, able .known, able .placed)
-      (record { answered = refl; legal = legal-from st c (earliest st c .cycle) .1 (omega arith); smallest = λ u l. legal-from st c u .0 l; gap = named-gap st c })
+      (record { answered = refl; legal = legal-from st c (earliest st c .cycle) .1 (omega arith); smallest = λ u l. legal-from st c u .0 l; gap = named-gap st c; loss = refl })
 
   pub earliest-rightly : (rank bank : ℕ) (reply : Reply) → c .rank ≡ rank → c .bank ≡ bank → reply ≡ earliestCase now (kindOf kind) rank bank → EarliestMeans st c reply
   earliest-rightly rank bank reply r b is =
@@ -186,19 +189,19 @@ plain-number n e r zero = go (eqb n 0) refl
     go true q = zero ∙ sym (eqb-true n 0 q)
     go false q = refl
 
-offered-number : (number : ℕ) (early : Ask) (c : Command) (t n : ℕ) → replyOf (offerReply number early c t n) .number ≡ n
-offered-number number early c t n = go (eqb n 0) (eqb n 7) refl refl
+offered-number : (number : ℕ) (s : Settings) (early : Ask) (c : Command) (t n : ℕ) → replyOf (offerReply number s early c t n) .number ≡ n
+offered-number number s early c t n = go (eqb n 0) (eqb n 7) refl refl
   where
     go : (z y : Bool) → eqb n 0 ≡ z → eqb n 7 ≡ y
-        → replyOf (cond z (accepted (record { number = 0; cycle = t; gap = 0 }) (command number c t)) (refused (cond y (named 7 early) (plain n)))) .number ≡ n
+        → replyOf (cond z (accepted (acceptedAt t) (command number c t)) (refused (cond y (named 7 s early) (plain n)))) .number ≡ n
     go true y p q = sym (eqb-true n 0 p)
     go false true p q = sym (eqb-true n 7 q)
     go false false p q = refl
 
-asked-number : (early : Ask) (n : ℕ) → earliestReply early n .number ≡ n
-asked-number early n = go (eqb n 0) refl
+asked-number : (s : Settings) (early : Ask) (n : ℕ) → earliestReply s early n .number ≡ n
+asked-number s early n = go (eqb n 0) refl
   where
-    go : (z : Bool) → eqb n 0 ≡ z → cond z (named 0 early) (plain n) .number ≡ n
+    go : (z : Bool) → eqb n 0 ≡ z → cond z (named 0 s early) (plain n) .number ≡ n
     go true p = sym (eqb-true n 0 p)
     go false p = refl
 
@@ -215,7 +218,7 @@ numbered room count (session st) (calls (offer kind rank bank t)) j = go (kindOf
         let c : Command = record { kind = k; rank = rank; bank = bank } in
         offerLines (st .settings .opening) (floor st) (earliest st c) c t ++ roomLines room count))
     go NoKind = refl
-    go (Kind k) = let c : Command = record { kind = k; rank = rank; bank = bank } in offered-number (st .number) (earliest st c) c t _
+    go (Kind k) = let c : Command = record { kind = k; rank = rank; bank = bank } in offered-number (st .number) (st .settings) (earliest st c) c t _
 numbered room count closed (calls take-back) j = refl
 numbered room count (session st) (calls take-back) j = plain-number (firstOf (depthLines (st .depth) ++ roomLines room count)) (takeBack (st .number)) (plain 0) refl
 numbered room count closed (asks-earliest kind rank bank) j = refl
@@ -223,7 +226,7 @@ numbered room count (session st) (asks-earliest kind rank bank) j = go (kindOf k
   where
     go : (k : MaybeKind) → earliestCase (session st) k rank bank .number ≡ firstOf (kindLines k (λ k. placeLines (st .settings .opening) (record { kind = k; rank = rank; bank = bank })))
     go NoKind = refl
-    go (Kind k) = asked-number (earliest st (record { kind = k; rank = rank; bank = bank })) _
+    go (Kind k) = asked-number (st .settings) (earliest st (record { kind = k; rank = rank; bank = bank })) _
 numbered room count closed asks-status j = refl
 numbered room count (session st) asks-status j = refl
 numbered room count now asks-stretch j = refl

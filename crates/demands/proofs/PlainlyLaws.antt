@@ -15,13 +15,13 @@ use Rattle.timing.specs.declared.rules.Command.{Command}
 use Rattle.timing.specs.Kinds.{kindOf}
 use Rattle.timing.specs.Earliest.{Settings, Ask}
 use Rattle.history.specs.Records.{Record, opening, command, takeBack}
-use Rattle.history.specs.Answers.{Refusal, _gives_, firstOf, roomOf, placeLines, openLines, depthLines, roomLines, offerLines, Reply, plain, named, Status, earliestOn, earliestReply, statusOn, Verdict, refused, accepted, replyOf, offerReply, recordSize}
+use Rattle.history.specs.Answers.{Refusal, _gives_, firstOf, roomOf, placeLines, openLines, depthLines, roomLines, offerLines, Reply, plain, named, Status, earliestOn, earliestReply, statusOn, Verdict, refused, accepted, replyOf, offerReply, recordSize, acceptedAt}
 use Rattle.history.specs.Struck.{Call, open-session, offer, take-back}
 use Rattle.session.specs.declared.state.Session.{Session}
 use Rattle.session.specs.State.{freshState}
 use Rattle.journal.specs.Restore.{Part, noPart}
 use Rattle.statements.specs.Statements.{Told, Restores}
-use Rattle.judging.specs.Judged.{isClosed, afterOf, earlyIn}
+use Rattle.judging.specs.Judged.{isClosed, afterOf, earlyIn, settingsBy}
 use Rattle.statements.specs.Exact.{earliestIn, earliestInCase, statusIn, statusInCase, stretchIn, stretchInCase, RestoredIn, tooLong, badAt, restored, restoredNumber, restoredAt, restoredState, restoreIn, openIn, offerIn, offerInCase, takeBackIn, takeBackInCase, Left}
 use Rattle.statements.specs.Calls.{Seen, partIn, PlacesStretch, HandsStretch, Outcome}
 use Rattle.demands.specs.Plainly.{ownNumbers, ownCycle, Plainly, EarliestPlainly, StatusPlainly, StretchPlainly, RestorePlainly}
@@ -29,8 +29,8 @@ use Rattle.demands.specs.Plainly.{ownNumbers, ownCycle, Plainly, Earlies
 -- a verdict that shows only what a call with these numbers and this cycle may show
 pub record Shows (own : List ℕ) (cycle : ℕ) (r : Reply) (taken : Bool) : Type 0 where
   pub number : List·Memᴰ (r .number) own
-  pub zeros : taken ≡ false → r .number ≢ 7 → (r .cycle ≡ 0) × (r .gap ≡ 0)
-  pub told : taken ≡ true → (r .number ≡ 0) × (r .cycle ≡ cycle) × (r .gap ≡ 0)
+  pub zeros : taken ≡ false → r .number ≢ 7 → (r .cycle ≡ 0) × (r .gap ≡ 0) × (r .loss ≡ 0)
+  pub told : taken ≡ true → (r .number ≡ 0) × (r .cycle ≡ cycle) × (r .gap ≡ 0) × (r .loss ≡ 0)
   pub not-told : taken ≡ false → r .number ≢ 0
 
 abbrev pub takes : Verdict → Bool
@@ -53,25 +53,25 @@ first-among ((false gives n) ∷ ls) = List·Memᴰ·tail (first-among ls)
 
 module _ (own : List ℕ) where
   refuses : (cycle n : ℕ) → List·Memᴰ n own → n ≢ 0 → Fair own cycle (refused (plain n))
-  refuses cycle n m some = record { number = m; zeros = λ e p. (refl, refl); told = λ e. absurd (false≢true e); not-told = λ e. some }
+  refuses cycle n m some = record { number = m; zeros = λ e p. (refl, refl, refl); told = λ e. absurd (false≢true e); not-told = λ e. some }
 
-  takes-it : (cycle : ℕ) (r : Reply) (e : Record) → List·Memᴰ 0 own → r .number ≡ 0 → r .cycle ≡ cycle → r .gap ≡ 0 → Fair own cycle (accepted r e)
-  takes-it cycle r e m zero same none = record { number = subst (λ (x : ℕ). List·Memᴰ x own) (sym zero) m; zeros = λ p. absurd (true≢false p); told = λ p. (zero, same, none); not-told = λ p. absurd (true≢false p) }
+  takes-it : (cycle : ℕ) (r : Reply) (e : Record) → List·Memᴰ 0 own → r .number ≡ 0 → r .cycle ≡ cycle → r .gap ≡ 0 → r .loss ≡ 0 → Fair own cycle (accepted r e)
+  takes-it cycle r e m zero same none lost = record { number = subst (λ (x : ℕ). List·Memᴰ x own) (sym zero) m; zeros = λ p. absurd (true≢false p); told = λ p. (zero, same, none, lost); not-told = λ p. absurd (true≢false p) }
 
   -- an acceptance with a record, or a refusal with the number
-  either : (cycle : ℕ) (r : Reply) (e : Record) (n : ℕ) → r .number ≡ 0 → r .cycle ≡ cycle → r .gap ≡ 0 → List·Memᴰ n own → Fair own cycle (cond (eqb n 0) (accepted r e) (refused (plain n)))
-  either cycle r e n zero same none m = by (eqb n 0) refl
+  either : (cycle : ℕ) (r : Reply) (e : Record) (n : ℕ) → r .number ≡ 0 → r .cycle ≡ cycle → r .gap ≡ 0 → r .loss ≡ 0 → List·Memᴰ n own → Fair own cycle (cond (eqb n 0) (accepted r e) (refused (plain n)))
+  either cycle r e n zero same none lost m = by (eqb n 0) refl
     where
       by : (z : Bool) → eqb n 0 ≡ z → Fair own cycle (cond z (accepted r e) (refused (plain n)))
-      by true p = takes-it cycle r e (subst (λ (x : ℕ). List·Memᴰ x own) (eqb-true n 0 p) m) zero same none
+      by true p = takes-it cycle r e (subst (λ (x : ℕ). List·Memᴰ x own) (eqb-true n 0 p) m) zero same none lost
       by false p = refuses cycle n m (eqb-false n 0 p)
 
-  offered : (number : ℕ) (early : Ask) (c : Command) (t n : ℕ) → List·Memᴰ n own → Fair own t (offerReply number early c t n)
-  offered number early c t n m = by (eqb n 0) (eqb n 7) refl refl
+  offered : (number : ℕ) (s : Settings) (early : Ask) (c : Command) (t n : ℕ) → List·Memᴰ n own → Fair own t (offerReply number s early c t n)
+  offered number s early c t n m = by (eqb n 0) (eqb n 7) refl refl
     where
       by : (z y : Bool) → eqb n 0 ≡ z → eqb n 7 ≡ y
-          → Fair own t (cond z (accepted (record { number = 0; cycle = t; gap = 0 }) (command number c t)) (refused (cond y (named 7 early) (plain n))))
-      by true y p q = takes-it t (record { number = 0; cycle = t; gap = 0 }) (command number c t) (subst (λ (x : ℕ). List·Memᴰ x own) (eqb-true n 0 p) m) refl refl refl
+          → Fair own t (cond z (accepted (acceptedAt t) (command number c t)) (refused (cond y (named 7 s early) (plain n))))
+      by true y p q = takes-it t (acceptedAt t) (command number c t) (subst (λ (x : ℕ). List·Memᴰ x own) (eqb-true n 0 p) m) refl refl refl refl
       by false true p q =
           record {
             number = subst (λ (x : ℕ). List·Memᴰ x own) (eqb-true n 7 q) m;
@@ -85,7 +85,7 @@ open-fair : (room : ℕ) (s : Session) (o : Settings) → Fair (ownNumbers (open
 unfolding openIn ownNumbers
 open-fair room s o =
     let ls = openLines (o .opening) ++ roomLines room (s .progress .records) in
-    either (10 ∷ 9 ∷ 0 ∷ []) 0 (plain 0) (opening o) (firstOf ls) refl refl refl (first-among ls)
+    either (10 ∷ 9 ∷ 0 ∷ []) 0 (plain 0) (opening o) (firstOf ls) refl refl refl refl (first-among ls)
 
 offer-fair : (room : ℕ) (s : Session) (kind rank bank t : ℕ) → Fair (ownNumbers (offer kind rank bank t)) t (offerIn room s kind rank bank t)
 unfolding offerIn ownNumbers
@@ -100,7 +100,7 @@ offer-fair room s kind rank bank t = go (isClosed s) (kindOf kind)
     go false (Kind k) =
         let c : Command = record { kind = k; rank = rank; bank = bank } in
         let ls = offerLines (s .terms .opening) (afterOf (s .progress)) (earlyIn s c) c t ++ roomLines room (s .progress .records) in
-        offered own (s .terms .number) (earlyIn s c) c t (firstOf ls) (List·Memᴰ·tail (List·Memᴰ·tail (first-among ls)))
+        offered own (s .terms .number) (settingsBy (s .terms)) (earlyIn s c) c t (firstOf ls) (List·Memᴰ·tail (List·Memᴰ·tail (first-among ls)))
 
 take-back-fair : (room : ℕ) (s : Session) → Fair (ownNumbers take-back) 0 (takeBackIn room s)
 unfolding takeBackIn ownNumbers
@@ -113,7 +113,7 @@ take-back-fair room s = go (isClosed s)
     go true = refuses own 0 1 (List·Memᴰ·head refl) (eqb-false 1 0 refl)
     go false =
         let ls = depthLines (s .progress .depth) ++ roomLines room (s .progress .records) in
-        either own 0 (plain 0) (takeBack (s .terms .number)) (firstOf ls) refl refl refl (List·Memᴰ·tail (first-among ls))
+        either own 0 (plain 0) (takeBack (s .terms .number)) (firstOf ls) refl refl refl refl (List·Memᴰ·tail (first-among ls))
 
 -- what a fair verdict leaves
 shown : (c : Call) (s next : Session) (lent bytes : List ℕ) (reply : Reply) (v : Verdict) → Fair (ownNumbers c) (ownCycle c) v → Left v s lent reply next bytes
@@ -135,7 +135,7 @@ shown c s next lent bytes reply (accepted r e) f left =
       same-state = λ p. absurd (p (f .told refl .0));
       same-bytes = λ p. absurd (p (f .told refl .0));
       zeros = λ p seven. absurd (p (f .told refl .0));
-      accepted = λ p. (f .told refl .1, f .told refl .2);
+      accepted = λ p. (f .told refl .1, f .told refl .2, f .told refl .3);
       writes = λ p. record { one = e; place = refl };
     })
 
@@ -148,24 +148,24 @@ demand-one (offer kind rank bank t) s next lent bytes reply out =
 demand-one take-back s next lent bytes reply out = shown take-back s next lent bytes reply (takeBackIn (roomOf (length lent)) s) (take-back-fair (roomOf (length lent)) s) (out .exact)
 
 -- the questions
-asked-plain : (early : Ask) (n : ℕ) → List·Memᴰ n (1 ∷ 2 ∷ 3 ∷ 4 ∷ 0 ∷ []) → EarliestPlainly (earliestReply early n)
-asked-plain early n m = by (eqb n 0) refl
+asked-plain : (s : Settings) (early : Ask) (n : ℕ) → List·Memᴰ n (1 ∷ 2 ∷ 3 ∷ 4 ∷ 0 ∷ []) → EarliestPlainly (earliestReply s early n)
+asked-plain s early n m = by (eqb n 0) refl
   where
-    by : (z : Bool) → eqb n 0 ≡ z → EarliestPlainly (cond z (named 0 early) (plain n))
+    by : (z : Bool) → eqb n 0 ≡ z → EarliestPlainly (cond z (named 0 s early) (plain n))
     by true e = record { own = subst (λ (x : ℕ). List·Memᴰ x (1 ∷ 2 ∷ 3 ∷ 4 ∷ 0 ∷ [])) (eqb-true n 0 e) m; zeros = λ p. absurd (p refl) }
-    by false e = record { own = m; zeros = λ p. (refl, refl) }
+    by false e = record { own = m; zeros = λ p. (refl, refl, refl) }
 
 pub earliest-plain : (s : Session) (kind rank bank : ℕ) (reply : Reply) → Told (earliestIn s kind rank bank) (λ h. earliestOn h kind rank bank) s reply → EarliestPlainly reply
 unfolding earliestIn
 earliest-plain s kind rank bank reply told = subst EarliestPlainly (sym (told .exact)) (go (isClosed s) (kindOf kind))
   where
     go : (z : Bool) (m : MaybeKind) → EarliestPlainly (earliestInCase s z m rank bank)
-    go true m = record { own = List·Memᴰ·head refl; zeros = λ p. (refl, refl) }
-    go false NoKind = record { own = List·Memᴰ·tail (List·Memᴰ·head refl); zeros = λ p. (refl, refl) }
+    go true m = record { own = List·Memᴰ·head refl; zeros = λ p. (refl, refl, refl) }
+    go false NoKind = record { own = List·Memᴰ·tail (List·Memᴰ·head refl); zeros = λ p. (refl, refl, refl) }
     go false (Kind k) =
         let c : Command = record { kind = k; rank = rank; bank = bank } in
         let ls = placeLines (s .terms .opening) c in
-        asked-plain (earlyIn s c) (firstOf ls) (List·Memᴰ·tail (List·Memᴰ·tail (first-among ls)))
+        asked-plain (settingsBy (s .terms)) (earlyIn s c) (firstOf ls) (List·Memᴰ·tail (List·Memᴰ·tail (first-among ls)))
 
 pub status-plain : (s : Session) (status : Status) → Told (statusIn s) (λ h. statusOn h) s status → StatusPlainly status
 unfolding statusIn

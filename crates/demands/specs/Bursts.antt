@@ -3,7 +3,7 @@ use mathlib.Core.Path.{_≡_}
 use mathlib.Core.List.{List, [], _∷_}
 use Prim.Native.Nat.{ℕ, zero, suc, _*_, _≤_, _<_}
 use lib.ListN.{length, getD, take}
-use Rattle.history.specs.Answers.{recordSize, roomOf, Reply}
+use Rattle.history.specs.Answers.{recordSize, roomOf, Reply, acceptedAt}
 use Rattle.history.specs.Struck.{Call, offer}
 use Rattle.session.specs.declared.state.Session.{Session}
 use Rattle.session.specs.State.{freshState}
@@ -16,15 +16,11 @@ use Rattle.demands.specs.Runs.{Event, moved, failed, foundIn}
 abbrev pub offerCall : Offer → Call
 offerCall o = offer (o .kind) (o .rank) (o .bank) (o .cycle .0)
 
--- an accepted offer is answered with its own cycle and 0
-abbrev pub acceptedAt : Offer → Reply
-acceptedAt o = record { number = 0; cycle = o .cycle .0; gap = 0 }
-
 -- the events of a burst, put on those before it: its first n commands accepted, then the refusal, if one is left
 unfoldable pub burstEvents : List Offer → ℕ → Reply → List Event → List Event
 burstEvents [] n reply es = es
 burstEvents (o ∷ os) zero reply es = moved (calls (offerCall o)) (replied reply) ∷ es
-burstEvents (o ∷ os) (suc n) reply es = burstEvents os n reply (moved (calls (offerCall o)) (replied (acceptedAt o)) ∷ es)
+burstEvents (o ∷ os) (suc n) reply es = burstEvents os n reply (moved (calls (offerCall o)) (replied (acceptedAt (o .cycle .0))) ∷ es)
 
 -- as `Run`, with bursts among the moves
 pub data BurstRun (room : ℕ) : List Event → Session → List ℕ → List ℕ → Type 0 where

@@ -6,7 +6,7 @@ use lib.Dec.{eqb}
 use Rattle.timing.specs.Earliest.{Settings}
 use Rattle.history.specs.Records.{opening}
 use Rattle.timing.specs.Editions.{newest}
-use Rattle.history.specs.Cases.{settings, settingsIn, gapsA, changed, gaps, reply}
+use Rattle.history.specs.Cases.{settings, settingsIn, gapsA, changed, gaps, losing, reply}
 use Rattle.history.specs.Struck.{open-session, offer, take-back}
 use Rattle.journal.specs.Bytes.{zeros, bytesOf}
 use Rattle.statements.specs.Calls.{Move, calls, asks-earliest, asks-status, Heard, replied, stated}
@@ -45,7 +45,7 @@ shortAnswers =
     replied (reply 0 0 0) ∷
     replied (reply 0 0 0) ∷
     replied (reply 0 15 1) ∷
-    replied (reply 7 5 3) ∷
+    replied (losing 2 7 5 3) ∷
     replied (reply 0 5 0) ∷
     status 2 2 5 3 ∷
     replied (reply 0 0 0) ∷

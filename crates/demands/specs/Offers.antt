@@ -9,7 +9,7 @@ use Rattle.timing.specs.declared.kinds.MaybeKind.{MaybeKind}
 use Rattle.timing.specs.declared.kinds.MaybeKind.the-variants.{Kind, NoKind}
 use Rattle.timing.specs.declared.rules.Command.{Command}
 use Rattle.timing.specs.Kinds.{kindOf}
-use Rattle.timing.specs.Earliest.{Standing, AsksFor, Legal, NamedGap, floor, earliest}
+use Rattle.timing.specs.Earliest.{lossOf, Standing, AsksFor, Legal, NamedGap, floor, earliest}
 use Rattle.history.specs.Records.{Current, closed, session}
 use Rattle.history.specs.Answers.{Refusal, _gives_, firstOf, openLines, placeLines, stampLines, offerLines, depthLines, roomLines, Reply}
 use Rattle.history.specs.Struck.{open-session, offer, take-back}
@@ -65,6 +65,7 @@ pub record OfferMeans (room count : ℕ) (st : Standing) (c : Command) (t : ℕ)
   pub legal : reply .number ≡ 7 → Legal st c (reply .cycle)
   pub smallest : reply .number ≡ 7 → (u : ℕ) → Legal st c u → reply .cycle ≤ u
   pub gap : reply .number ≡ 7 → NamedGap st c (record { cycle = reply .cycle; gap = reply .gap })
+  pub loss : reply .number ≡ 7 → reply .loss ≡ lossOf (st .settings) (reply .gap)
   pub accepted : (reply .number ≡ 0) ↔ (Legal st c t × (count < room))
   pub full : (reply .number ≡ 9) ↔ (Legal st c t × (room ≤ count))
 
@@ -80,3 +81,4 @@ pub record EarliestMeans (st : Standing) (c : Command) (reply : Reply) : Type 0 
   pub legal : Legal st c (reply .cycle)
   pub smallest : (u : ℕ) → Legal st c u → reply .cycle ≤ u
   pub gap : NamedGap st c (record { cycle = reply .cycle; gap = reply .gap })
+  pub loss : reply .loss ≡ lossOf (st .settings) (reply .gap)

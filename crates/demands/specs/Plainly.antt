@@ -34,14 +34,14 @@ pub record Plainly (c : Call) (s : Session) (lent : List ℕ) (reply : Reply) (n
   pub own : List·Memᴰ (reply .number) (ownNumbers c)
   pub same-state : reply .number ≢ 0 → next ≡ s
   pub same-bytes : reply .number ≢ 0 → bytes ≡ lent
-  pub zeros : reply .number ≢ 0 → reply .number ≢ 7 → (reply .cycle ≡ 0) × (reply .gap ≡ 0)
-  pub accepted : reply .number ≡ 0 → (reply .cycle ≡ ownCycle c) × (reply .gap ≡ 0)
+  pub zeros : reply .number ≢ 0 → reply .number ≢ 7 → (reply .cycle ≡ 0) × (reply .gap ≡ 0) × (reply .loss ≡ 0)
+  pub accepted : reply .number ≡ 0 → (reply .cycle ≡ ownCycle c) × (reply .gap ≡ 0) × (reply .loss ≡ 0)
   pub writes : reply .number ≡ 0 → Writes s lent bytes
 
 -- the questions; they hand back no state and no bytes
 pub record EarliestPlainly (reply : Reply) : Type 0 where
   pub own : List·Memᴰ (reply .number) (1 ∷ 2 ∷ 3 ∷ 4 ∷ 0 ∷ [])
-  pub zeros : reply .number ≢ 0 → (reply .cycle ≡ 0) × (reply .gap ≡ 0)
+  pub zeros : reply .number ≢ 0 → (reply .cycle ≡ 0) × (reply .gap ≡ 0) × (reply .loss ≡ 0)
 
 pub record StatusPlainly (status : Status) : Type 0 where
   pub own : List·Memᴰ (status .number) (1 ∷ 0 ∷ [])

@@ -115,8 +115,8 @@ module _ (r : ℕ) (good : goodRatio r ≡ true) (room room′ : ℕ) (h : Histo
       low = le-ltb lastCycle t (omega (arith, within, mul-le-mul-left {m = 1} {n = r} t above))
 
       by : (st : Standing) (e e′ : Ask) (c : Command) (p q u v : Bool)
-          → SameEnd r h (offerReply (st .number) e c t (firstOf ((p gives 3) ∷ (q gives 4) ∷ (false gives 5) ∷ (u gives 6) ∷ (v gives 7) ∷ (false gives 9) ∷ [])))
-          (offerReply (st .number) e′ c (t * r) (firstOf ((p gives 3) ∷ (q gives 4) ∷ (false gives 5) ∷ (u gives 6) ∷ (v gives 7) ∷ (false gives 9) ∷ [])))
+          → SameEnd r h (offerReply (st .number) (st .settings) e c t (firstOf ((p gives 3) ∷ (q gives 4) ∷ (false gives 5) ∷ (u gives 6) ∷ (v gives 7) ∷ (false gives 9) ∷ [])))
+          (offerReply (st .number) (ratioOne (st .settings)) e′ c (t * r) (firstOf ((p gives 3) ∷ (q gives 4) ∷ (false gives 5) ∷ (u gives 6) ∷ (v gives 7) ∷ (false gives 9) ∷ [])))
       by st e e′ c true q u v = record { number = refl; next = refl; all = a }
       by st e e′ c false true u v = record { number = refl; next = refl; all = a }
       by st e e′ c false false true v = record { number = refl; next = refl; all = a }

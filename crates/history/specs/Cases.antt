@@ -45,8 +45,12 @@ pub record Case : Type 0 where
   pub question : Question
   pub answer : Reply
 
+-- a reply whose gap loses so many DRAM cycles; and one that loses none
+abbrev pub losing : ℕ → ℕ → ℕ → ℕ → Reply
+losing loss n cycle gap = record { number = n; cycle = cycle; gap = gap; loss = loss }
+
 abbrev pub reply : ℕ → ℕ → ℕ → Reply
-reply n cycle gap = record { number = n; cycle = cycle; gap = gap }
+reply = losing 0
 
 -- a session with these settings, its records after the opening, oldest first, a question, and its answer
 abbrev pub case : Settings → List Record → Question → Reply → Case
@@ -61,14 +65,14 @@ kFirst =
     let grouped = settings 1 1 gapsA in
     let short = settings 1 0 (changed 2 8 (changed 1 4 gapsA)) in
     case a [] (earliest Act 0) (reply 0 0 0) ∷
-    case a (at Act 0 0 ∷ []) (offer Rd 0 4) (reply 7 5 3) ∷
+    case a (at Act 0 0 ∷ []) (offer Rd 0 4) (losing 2 7 5 3) ∷
     case a (at Act 0 0 ∷ []) (offer Rd 0 5) (reply 0 5 0) ∷
     case a (at Act 0 0 ∷ []) (earliest Act 1) (reply 0 2 2) ∷
     case a (at Act 0 0 ∷ []) (earliest Act 0) (reply 0 15 1) ∷
     case a four (earliest Act 4) (reply 0 8 2) ∷
     case wide four (earliest Act 4) (reply 0 10 20) ∷
     case wide (four ++ takeBack 0 ∷ []) (earliest Act 4) (reply 0 6 2) ∷
-    case a (at Act 0 0 ∷ at Prepb 0 20 ∷ []) (earliest Act 0) (reply 0 25 14) ∷
+    case a (at Act 0 0 ∷ at Prepb 0 20 ∷ []) (earliest Act 0) (losing 2 0 25 14) ∷
     case grouped (at Rd 0 10 ∷ []) (earliest Rd 1) (reply 0 18 6) ∷
     case grouped (at Rd 0 10 ∷ []) (earliest Rd 2) (reply 0 16 7) ∷
     case short (at Act 0 0 ∷ []) (earliest Act 0) (reply 0 4 1) ∷
@@ -109,25 +113,42 @@ groupCases =
     []
 
 -- a refresh after the other kind of precharge, no K: in edition 0 the next cycle, from edition 1 on tRPab after it; any bank, any mode
-abbrev pub prechargeCases : ℕ → ℕ → ℕ → ℕ → List Case
-prechargeCases edition mode cycle gap =
+abbrev pub prechargeCases : ℕ → ℕ → Reply → List Case
+prechargeCases edition mode r =
     let a = settingsIn edition 4 mode gapsA in
-    case a (at Prepb 3 10 ∷ []) (earliest Refab 0) (reply 0 cycle gap) ∷
-    case a (at Preab 0 10 ∷ []) (earliest Refpb 0) (reply 0 cycle gap) ∷
-    case a (at Preab 0 10 ∷ []) (earliest Refpb 5) (reply 0 cycle gap) ∷
+    case a (at Prepb 3 10 ∷ []) (earliest Refab 0) r ∷
+    case a (at Preab 0 10 ∷ []) (earliest Refpb 0) r ∷
+    case a (at Preab 0 10 ∷ []) (earliest Refpb 5) r ∷
     []
 
 unfoldable pub editionCases : List Case
 editionCases =
-    prechargeCases documentOne 0 11 0 ++ prechargeCases documentOne 1 11 0 ++ prechargeCases documentOne 2 11 0
-    ++ prechargeCases anyPrecharge 0 16 15 ++ prechargeCases anyPrecharge 1 16 15 ++ prechargeCases anyPrecharge 2 16 15
+    let next = reply 0 11 0 in
+    let later = losing 3 0 16 15 in
+    prechargeCases documentOne 0 next ++ prechargeCases documentOne 1 next ++ prechargeCases documentOne 2 next
+    ++ prechargeCases anyPrecharge 0 later ++ prechargeCases anyPrecharge 1 later ++ prechargeCases anyPrecharge 2 later
+
+-- what the ratio costs, no K: tRCD is 18 and tRPab 21, at ratios 1, 2 and 4; too early, and asked
+abbrev pub ratioCases : ℕ → Reply → Reply → Reply → List Case
+ratioCases ratio early asked precharge =
+    let a = settings ratio 0 gapsA in
+    case a (at Act 0 0 ∷ []) (offer Rd 0 1) early ∷
+    case a (at Act 0 0 ∷ []) (earliest Rd 0) asked ∷
+    case a (at Preab 0 0 ∷ []) (earliest Act 0) precharge ∷
+    []
+
+unfoldable pub lossCases : List Case
+lossCases =
+    ratioCases 1 (reply 7 18 3) (reply 0 18 3) (reply 0 21 15)
+    ++ ratioCases 2 (reply 7 9 3) (reply 0 9 3) (losing 1 0 11 15)
+    ++ ratioCases 4 (losing 2 7 5 3) (losing 2 0 5 3) (losing 3 0 6 15)
 
 abbrev pub answered : History → Question → Reply
 answered h (earliest k bank) = earliestOn h (codeOf k) 0 bank
 answered h (offer k bank t) = replyOf (offerOn maxRecords h (codeOf k) 0 bank t)
 
 abbrev pub same : Reply → Reply → Bool
-same x y = eqb (x .number) (y .number) && eqb (x .cycle) (y .cycle) && eqb (x .gap) (y .gap)
+same x y = eqb (x .number) (y .number) && eqb (x .cycle) (y .cycle) && eqb (x .gap) (y .gap) && eqb (x .loss) (y .loss)
 
 -- the records stand, and the question gets the answer
 abbrev pub right : Case → Bool

@@ -1,15 +1,37 @@
-// Document 01's answer numbers, and what an offer and a question for the earliest cycle answer: a number, and beside it a cycle and a
-// gap number. It crosses to C as it is.
+// Document 01's answer numbers, and what an offer and a question for the earliest cycle answer: a number, and beside it a cycle, a gap
+// number and the DRAM cycles that this gap loses to rounding. It crosses to C as it is.
 ghost use mathlib.Core.Path.{_≡_};
-ghost use Rattle.history.specs.Answers.{plain};
-ghost use Rattle.judging.specs.Judged.{replyIn};
+ghost use Rattle.timing.specs.Earliest.{lossOf};
+ghost use Rattle.history.specs.Answers.{plain, named};
+ghost use Rattle.scan.specs.Scan.{askIn};
+ghost use Rattle.judging.specs.Judged.{replyIn, settingsBy};
+use scan::earliest::Earliest;
+use session::state::Terms;
 use timing::clocks::ControllerCycles;
+use timing::clocks::DramCycles;
+use timing::rules::Opening;
 
 #[repr(C)]
 pub struct Answer {
     pub number: u64,
     pub cycle: ControllerCycles,
     pub gap: u64,
+    pub loss: DramCycles,
+}
+
+// The DRAM cycles that a gap loses to rounding. No gap but 1 to 20 is ever named.
+fn loss_of(opening: Opening, gaps: [DramCycles; 20], gap: u64) -> DramCycles
+    ensures { λ r. ⌜ r .0 ≡ lossOf (record { opening = opening; gaps = gaps }) gap ⌝ }
+{
+    if gap == 0 {
+        return DramCycles(0);
+    }
+    if 20 < gap {
+        return DramCycles(0);
+    }
+    let given = gaps[(gap - 1) as usize];
+    let both = given.converted(opening);
+    both.lost
 }
 
 impl Answer {
@@ -45,6 +67,22 @@ impl Answer {
             number,
             cycle: ControllerCycles(0),
             gap: 0,
+            loss: DramCycles(0),
+        }
+    }
+
+    // A number with the earliest cycle, the gap that asks for it, and what that gap loses.
+    pub fn told(number: u64, terms: Terms, early: Earliest) -> Answer
+        ensures { λ r. ⌜ replyIn r ≡ named number (settingsBy terms) (askIn early) ⌝ }
+    {
+        let opening = terms.opening;
+        let gaps = terms.gaps;
+        let cycle = early.cycle;
+        Answer {
+            number,
+            cycle,
+            gap: early.gap,
+            loss: loss_of(opening, gaps, early.gap),
         }
     }
 }

@@ -112,7 +112,7 @@ poppedProgress p e =
 
 abbrev pub noTerms : Terms
 noTerms =
-    record { rounded = replicate 20 (cycles 0); opening = record { ratio = 0; ranks = 0; mode = 0; edition = 0; client = 0 }; number = 0; «is_open» = 0 }
+    record { rounded = replicate 20 (cycles 0); gaps = replicate 20 (record { 0 = 0 }); opening = record { ratio = 0; ranks = 0; mode = 0; edition = 0; client = 0 }; number = 0; «is_open» = 0 }
 
 -- THE STATE
 abbrev pub cleared : Progress → Terms → Session
@@ -124,7 +124,7 @@ freshState = cleared (started 0) noTerms
 -- an opening clears what the session before it left, and begins at the present record
 unfoldable pub openedState : ℕ → Opening → List DramCycles → Session
 openedState records o gaps =
-    cleared (started (oneMore records)) (record { rounded = roundedGaps o gaps; opening = o; number = records % 4294967296; «is_open» = 1 })
+    cleared (started (oneMore records)) (record { rounded = roundedGaps o gaps; gaps = gaps; opening = o; number = records % 4294967296; «is_open» = 1 })
 
 -- a command: its entry into the ring, its stamp into its slot
 unfoldable pub pushedState : Session → Command → ℕ → Session

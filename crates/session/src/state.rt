@@ -4,6 +4,7 @@ ghost use mathlib.Core.Path.{_≡_};
 ghost use Rattle.session.specs.State.{freshState};
 use crate::stamps::Stamp;
 use timing::clocks::ControllerCycles;
+use timing::clocks::DramCycles;
 use timing::rules::Opening;
 
 // A stamp for each rank, kind and bank.
@@ -42,8 +43,9 @@ pub struct Progress {
 // What the client gave: only an opening changes it.
 #[repr(C)]
 pub struct Terms {
-    // The twenty gaps in controller cycles, rounded once at the opening.
+    // The twenty gaps in controller cycles, rounded once at the opening, and as they were given.
     pub rounded: [ControllerCycles; 20],
+    pub gaps: [DramCycles; 20],
     pub opening: Opening,
     // The record number of the opening.
     pub number: u32,
@@ -83,6 +85,7 @@ impl Session {
             },
             terms: Terms {
                 rounded: [ControllerCycles(0); 20],
+                gaps: [DramCycles(0); 20],
                 opening: Opening {
                     ratio: 0,
                     ranks: 0,

@@ -12,16 +12,16 @@ use Rattle.timing.specs.declared.kinds.MaybeKind.{MaybeKind}
 use Rattle.timing.specs.declared.kinds.MaybeKind.the-variants.{Kind, NoKind}
 use Rattle.timing.specs.declared.rules.Command.{Command}
 use Rattle.timing.specs.Kinds.{kindOf}
-use Rattle.timing.specs.Earliest.{Ask}
+use Rattle.timing.specs.Earliest.{Ask, Settings}
 use Rattle.history.specs.Records.{Record, command, History}
-use Rattle.history.specs.Answers.{recordSize, roomOf, firstOf, offerLines, roomLines, Reply, plain, named, Verdict, refused, accepted, replyOf, nextOf, offerReply}
+use Rattle.history.specs.Answers.{recordSize, roomOf, firstOf, offerLines, roomLines, Reply, plain, named, Verdict, refused, accepted, replyOf, nextOf, offerReply, acceptedAt}
 use Rattle.history.specs.Struck.{offer}
 use Rattle.session.specs.declared.state.Session.{Session}
 use Rattle.journal.specs.declared.records.Offer.{Offer}
 use Rattle.journal.specs.Bytes.{bytesOf, offerFrom}
 use Rattle.journal.specs.Restore.{putAt, bytesAfter, pieces, offersFrom}
 use Rattle.journal.proofs.PieceLaws.{from, piece}
-use Rattle.judging.specs.Judged.{afterOf, earlyIn, isClosed, takenState}
+use Rattle.judging.specs.Judged.{afterOf, earlyIn, settingsBy, isClosed, takenState}
 use Rattle.statements.specs.Exact.{offerInCase, offerIn, stateAfter, Left}
 use Rattle.statements.specs.Rep.{Rep}
 use Rattle.statements.specs.Bursts.{Over, over, Burst, ended, goesOn, inARow, verdictIn, afterIn, burstIn, afterOn, burstOn, Means, Bursts, OffersOne, InARow, none-left, one-refused, one-accepted}
@@ -32,13 +32,13 @@ use Rattle.statements.proofs.RestoreLaws.{pieces-on}
 -- the number of a refusal is not 0; an accepted offer is answered with its own cycle
 abbrev Numbered : ℕ → Verdict → Type 0
 Numbered t (refused r) = r .number ≢ 0
-Numbered t (accepted r e) = r ≡ record { number = 0; cycle = t; gap = 0 }
+Numbered t (accepted r e) = r ≡ acceptedAt t
 
-reply-numbered : (number : ℕ) (early : Ask) (c : Command) (t n : ℕ) → Numbered t (offerReply number early c t n)
-reply-numbered number early c t n = go (eqb n 0) (eqb n 7) refl
+reply-numbered : (number : ℕ) (s : Settings) (early : Ask) (c : Command) (t n : ℕ) → Numbered t (offerReply number s early c t n)
+reply-numbered number s early c t n = go (eqb n 0) (eqb n 7) refl
   where
     go : (none seven : Bool) → eqb n 0 ≡ none
-        → Numbered t (cond none (accepted (record { number = 0; cycle = t; gap = 0 }) (command number c t)) (refused (cond seven (named 7 early) (plain n))))
+        → Numbered t (cond none (accepted (acceptedAt t) (command number c t)) (refused (cond seven (named 7 s early) (plain n))))
     go true seven e = refl
     go false true e = eqb-false 7 0 refl
     go false false e = eqb-false n 0 e
@@ -52,7 +52,7 @@ offer-numbered room s kind rank bank t = go (isClosed s) (kindOf kind)
     go false NoKind = eqb-false 2 0 refl
     go false (Kind k) =
         let c : Command = record { kind = k; rank = rank; bank = bank } in
-        reply-numbered (s .terms .number) (earlyIn s c) c t (firstOf (offerLines (s .terms .opening) (afterOf (s .progress)) (earlyIn s c) c t ++ roomLines room (s .progress .records)))
+        reply-numbered (s .terms .number) (settingsBy (s .terms)) (earlyIn s c) c t (firstOf (offerLines (s .terms .opening) (afterOf (s .progress)) (earlyIn s c) c t ++ roomLines room (s .progress .records)))
 
 number : {a b : Reply} → a ≡ b → a .number ≡ b .number
 number e = ap (λ (q : Reply). q .number) e
@@ -77,10 +77,10 @@ module _ (s : Session) (lent : List ℕ) (o : Offer) where
   here-numbered = offer-numbered (roomOf (length lent)) s (o .kind) (o .rank) (o .bank) (o .cycle .0)
 
   -- an accepted offer is answered with its own cycle and 0
-  pub accepted-reply : {r : Reply} {next : Session} {bytes : List ℕ} → OffersOne s lent o r next bytes → r .number ≡ 0 → r ≡ record { number = 0; cycle = o .cycle .0; gap = 0 }
+  pub accepted-reply : {r : Reply} {next : Session} {bytes : List ℕ} → OffersOne s lent o r next bytes → r .number ≡ 0 → r ≡ acceptedAt (o .cycle .0)
   accepted-reply {r} {next} {bytes} p none = go here here-numbered (p .exact)
     where
-      go : (v : Verdict) → Numbered (o .cycle .0) v → Left v s lent r next bytes → r ≡ record { number = 0; cycle = o .cycle .0; gap = 0 }
+      go : (v : Verdict) → Numbered (o .cycle .0) v → Left v s lent r next bytes → r ≡ acceptedAt (o .cycle .0)
       go (refused q) z left = absurd (z (sym (number (left .answer)) ∙ none))
       go (accepted q x) z left = left .answer ∙ z
 

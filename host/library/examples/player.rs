@@ -57,12 +57,14 @@ fn opened(bench: &mut Bench, settings: &Settings) -> Result<String, End> {
 fn offered(bench: &mut Bench, name: &str, place: [u64; 3]) -> Result<String, End> {
     let [rank, bank, cycle] = place;
     let Some((_, kind)) = KINDS.iter().find(|(known, _)| *known == name) else {
-        return Ok("offer 2 0 0".to_string());
+        return Ok("offer 2 0 0 0".to_string());
     };
     let refused = match bench.offer(*kind, rank, bank, cycle)? {
         // Here the command goes to the module.
         Offered::Accepted { cycle } => return Ok(format!("play {name} {rank} {bank} {cycle}")),
-        Offered::TooEarly { cycle, gap } => return Ok(format!("offer 7 {cycle} {gap}")),
+        Offered::TooEarly { cycle, gap, loss } => {
+            return Ok(format!("offer 7 {cycle} {gap} {loss}"));
+        }
         Offered::NoSession => 1,
         Offered::BadRank => 3,
         Offered::BadBank => 4,
@@ -70,7 +72,7 @@ fn offered(bench: &mut Bench, name: &str, place: [u64; 3]) -> Result<String, End
         Offered::NotLater => 6,
         Offered::NoRoom => 9,
     };
-    Ok(format!("offer {refused} 0 0"))
+    Ok(format!("offer {refused} 0 0 0"))
 }
 
 fn taken_back(bench: &mut Bench) -> Result<String, End> {

@@ -29,7 +29,7 @@ pub fn open(
     done.number
 }
 
-/// Offers a command: the number, with the cycle and the gap beside it.
+/// Offers a command: the number, with the cycle, the gap and what that loses beside it.
 pub fn offer(
     session: &mut Session,
     journal: &mut [u8],
@@ -45,14 +45,20 @@ pub fn offer(
         number: done.number,
         cycle: done.cycle,
         gap: done.gap,
+        loss: done.loss,
     }
 }
 
 /// How many of a burst's commands were accepted, and the first refusal, or zeros.
 fn ended(session: &mut Session, done: &Burst) -> (u64, Numbers) {
     *session = done.session;
-    let (number, cycle, gap) = (done.number, done.cycle, done.gap);
-    (done.count, Numbers { number, cycle, gap })
+    let refusal = Numbers {
+        number: done.number,
+        cycle: done.cycle,
+        gap: done.gap,
+        loss: done.loss,
+    };
+    (done.count, refusal)
 }
 
 /// Offers commands one after the other, up to the first refusal: how many were accepted, and that refusal, or zeros.
@@ -75,7 +81,7 @@ pub fn offer_pieces(session: &mut Session, journal: &mut [u8], pieces: &[u8]) ->
     ended(session, &done)
 }
 
-/// The earliest cycle of a command: the number, the cycle, the gap.
+/// The earliest cycle of a command: the number, the cycle, the gap and what that loses.
 pub fn earliest(session: &Session, kind: u64, rank: u64, bank: u64) -> Numbers {
     unsafe { ffi::rossinhiu_earliest(*session, kind, rank, bank) }
 }

@@ -38,6 +38,7 @@ pub struct Progress {
 #[derive(Clone, Copy, Debug, Default, PartialEq, Eq)]
 pub struct Terms {
     pub rounded: [u64; 20],
+    pub gaps: [u16; 20],
     pub opening: Opening,
     pub number: u32,
     pub is_open: u8,
@@ -89,6 +90,7 @@ pub struct Offered {
     pub number: u64,
     pub cycle: u64,
     pub gap: u64,
+    pub loss: u16,
 }
 
 /// A command as it is offered.
@@ -109,6 +111,7 @@ pub struct Burst {
     pub number: u64,
     pub cycle: u64,
     pub gap: u64,
+    pub loss: u16,
 }
 
 #[repr(C)]
@@ -117,6 +120,7 @@ pub struct Numbers {
     pub number: u64,
     pub cycle: u64,
     pub gap: u64,
+    pub loss: u16,
 }
 
 #[repr(C)]
@@ -180,11 +184,11 @@ pub struct Played {
 }
 
 extern "C" {
-    #[link_name = "rossinhiu_fresh_3"]
+    #[link_name = "rossinhiu_fresh_4"]
     pub fn rossinhiu_fresh() -> Session;
-    #[link_name = "rossinhiu_gaps_3"]
+    #[link_name = "rossinhiu_gaps_4"]
     pub fn rossinhiu_gaps(tck: u64, times: Times) -> Sheet;
-    #[link_name = "rossinhiu_open_3"]
+    #[link_name = "rossinhiu_open_4"]
     pub fn rossinhiu_open(
         session: Session,
         journal: *mut u8,
@@ -195,7 +199,7 @@ extern "C" {
         client: u32,
         gaps: Gaps,
     ) -> Opened;
-    #[link_name = "rossinhiu_offer_3"]
+    #[link_name = "rossinhiu_offer_4"]
     pub fn rossinhiu_offer(
         session: Session,
         journal: *mut u8,
@@ -205,7 +209,7 @@ extern "C" {
         bank: u64,
         cycle: u64,
     ) -> Offered;
-    #[link_name = "rossinhiu_offer_all_3"]
+    #[link_name = "rossinhiu_offer_all_4"]
     pub fn rossinhiu_offer_all(
         session: Session,
         journal: *mut u8,
@@ -213,7 +217,7 @@ extern "C" {
         commands: *const Command,
         listed: usize,
     ) -> Burst;
-    #[link_name = "rossinhiu_offer_pieces_3"]
+    #[link_name = "rossinhiu_offer_pieces_4"]
     pub fn rossinhiu_offer_pieces(
         session: Session,
         journal: *mut u8,
@@ -221,17 +225,17 @@ extern "C" {
         pieces: *const u8,
         pieces_size: usize,
     ) -> Burst;
-    #[link_name = "rossinhiu_earliest_3"]
+    #[link_name = "rossinhiu_earliest_4"]
     pub fn rossinhiu_earliest(session: Session, kind: u64, rank: u64, bank: u64) -> Numbers;
-    #[link_name = "rossinhiu_take_back_3"]
+    #[link_name = "rossinhiu_take_back_4"]
     pub fn rossinhiu_take_back(session: Session, journal: *mut u8, size: usize) -> TakenBack;
-    #[link_name = "rossinhiu_status_3"]
+    #[link_name = "rossinhiu_status_4"]
     pub fn rossinhiu_status(session: Session) -> Status;
-    #[link_name = "rossinhiu_restore_3"]
+    #[link_name = "rossinhiu_restore_4"]
     pub fn rossinhiu_restore(journal: *const u8, size: usize) -> Restored;
-    #[link_name = "rossinhiu_stretch_3"]
+    #[link_name = "rossinhiu_stretch_4"]
     pub fn rossinhiu_stretch(session: Session, size: usize) -> Part;
-    #[link_name = "rossinhiu_list_part_3"]
+    #[link_name = "rossinhiu_list_part_4"]
     pub fn rossinhiu_list_part(
         session: Session,
         part: *const u8,
@@ -240,7 +244,7 @@ extern "C" {
         out: *mut u8,
         out_size: usize,
     ) -> Listed;
-    #[link_name = "rossinhiu_console_3"]
+    #[link_name = "rossinhiu_console_4"]
     pub fn rossinhiu_console(
         session: Session,
         journal: *mut u8,

@@ -140,7 +140,7 @@ impl Pair {
         let came = checker::earliest(&self.session, kind, rank, bank);
         let due = self.model.ask(kind, rank, bank);
         self.saw("earliest", came.number, came.gap);
-        self.hold("earliest", told(came), (due.number, due.cycle, due.gap));
+        self.hold("earliest", as_model(came), due);
         came
     }
 
@@ -182,7 +182,11 @@ impl Pair {
                     .or_default() += 1;
             }
         }
-        self.hold("offer", told(came), (due.number, due.cycle, due.gap));
+        *self
+            .seen
+            .entry(("loss", came.number, came.loss.into()))
+            .or_default() += 1;
+        self.hold("offer", as_model(came), due);
     }
 
     fn take_back(&mut self) {
@@ -304,17 +308,13 @@ impl Pair {
                 }
                 750..=899 => self.take_back(),
                 900..=959 => self.status(),
-                960..=995 => self.stretch(),
+                960..=979 => self.stretch(),
                 _ => self.restore(),
             }
         }
         self.status();
         self.restore();
     }
-}
-
-fn told(came: Numbers) -> (u64, u128, u64) {
-    (came.number, u128::from(came.cycle), came.gap)
 }
 
 fn number_from(name: &str, default: u64) -> u64 {
@@ -404,6 +404,12 @@ fn every_answer_came(seen: &Seen) {
             );
         }
     }
+    // What ratios 2 and 4 can lose, beside 7 and beside nothing else.
+    for loss in 0..=4 {
+        let beside = |number| seen.contains_key(&("loss", number, loss));
+        assert_eq!(beside(7), loss < 4, "loss {loss} beside 7");
+        assert_eq!(beside(0), loss == 0, "loss {loss} beside 0");
+    }
     for gap in 1..=20 {
         assert!(
             seen.contains_key(&("offer", 7, gap)),
@@ -445,6 +451,7 @@ fn as_model(numbers: Numbers) -> Answer {
         number: numbers.number,
         cycle: u128::from(numbers.cycle),
         gap: numbers.gap,
+        loss: numbers.loss.into(),
     }
 }
 

@@ -102,7 +102,10 @@ fn by_model(state: &mut State, room: usize, trace: &str) -> String {
                 let answer = state.offer(&mut lent, command);
                 said += &match answer.number {
                     0 => format!("play {} {rank} {bank} {cycle}\n", words[1]),
-                    n => format!("offer {n} {} {}\n", answer.cycle, answer.gap),
+                    n => format!(
+                        "offer {n} {} {} {}\n",
+                        answer.cycle, answer.gap, answer.loss
+                    ),
                 };
             }
             "back" => said += &format!("back {}\n", state.back(&mut lent)),
@@ -627,7 +630,7 @@ int main(void) {
             struct rossinhiu_burst done = form == 0
                 ? rossinhiu_offer_all(session, journal, sizeof journal, list, listed)
                 : rossinhiu_offer_pieces(session, journal, sizeof journal, pieces, 64 * listed + listed % 64);
-            printf("%" PRIu64 " %" PRIu64 " %" PRIu64 " %" PRIu64 "\n", done.count, done.number, done.cycle, done.gap);
+            printf("%" PRIu64 " %" PRIu64 " %" PRIu64 " %" PRIu64 " %d\n", done.count, done.number, done.cycle, done.gap, done.loss);
             session = done.session;
         }
     }
@@ -653,8 +656,13 @@ fn round_by_model(rng: &mut Rng, lines: &mut String, due: &mut String) {
         }
         *lines += "\n";
         let BurstAnswer { count, refusal } = model.burst(&list);
-        let Answer { number, cycle, gap } = refusal;
-        *due += &format!("{count} {number} {cycle} {gap}\n");
+        let Answer {
+            number,
+            cycle,
+            gap,
+            loss,
+        } = refusal;
+        *due += &format!("{count} {number} {cycle} {gap} {loss}\n");
     }
     *lines += "3\n";
     let hex: String = model.journal.iter().map(|b| format!("{b:02x}")).collect();
@@ -682,7 +690,7 @@ fn bursts_in_c_and_in_cpp() {
         .collect();
     let all = ["0", "2", "3", "4", "5", "6", "7", "9"];
     assert_eq!(middle, BTreeSet::from(all));
-    assert!(due.contains("\n0 1 0 0\n"), "no session");
+    assert!(due.contains("\n0 1 0 0 0\n"), "no session");
 }
 
 /// A header of another layout does not link with the archive, whatever is called.
@@ -712,8 +720,8 @@ fn another_layout_does_not_link() {
 /// The number of the layout, and what it stands for: where sizes or offsets change, the next number goes into the header, the exported
 /// names and their names in Rust, and both are written here anew. A struct that is added changes the fingerprint alone: the others are
 /// where they were.
-const LAYOUT: u64 = 3;
-const FINGERPRINT: u64 = 15_391_797_690_922_650_506;
+const LAYOUT: u64 = 4;
+const FINGERPRINT: u64 = 8_397_720_516_748_609_740;
 
 fn fingerprint(text: &str) -> u64 {
     let step = |hash: u64, byte: u8| (hash ^ u64::from(byte)).wrapping_mul(0x100_0000_01b3);
@@ -741,16 +749,16 @@ fn the_headers_layout() {
         "rossinhiu_entry" ffi::Entry { slot, earlier, pushed_out, latest }
         "rossinhiu_opening" ffi::Opening { ratio, ranks, mode, edition, client }
         "rossinhiu_progress" ffi::Progress { activates, latest, position, survivors, depth, records }
-        "rossinhiu_terms" ffi::Terms { rounded, opening, number, is_open }
+        "rossinhiu_terms" ffi::Terms { rounded, gaps, opening, number, is_open }
         "rossinhiu_session" ffi::Session { last, entries, progress, terms }
         "rossinhiu_gaps" ffi::Gaps { gap }
         "rossinhiu_times" ffi::Times { time }
         "rossinhiu_sheet" ffi::Sheet { number, gap_number, gaps }
         "rossinhiu_opened" ffi::Opened { session, number }
-        "rossinhiu_offered" ffi::Offered { session, number, cycle, gap }
+        "rossinhiu_offered" ffi::Offered { session, number, cycle, gap, loss }
         "rossinhiu_command" ffi::Command { kind, rank, bank, cycle }
-        "rossinhiu_burst" ffi::Burst { session, count, number, cycle, gap }
-        "rossinhiu_answer" ffi::Numbers { number, cycle, gap }
+        "rossinhiu_burst" ffi::Burst { session, count, number, cycle, gap, loss }
+        "rossinhiu_answer" ffi::Numbers { number, cycle, gap, loss }
         "rossinhiu_taken_back" ffi::TakenBack { session, number }
         "rossinhiu_standing" ffi::Status { number, client, opening, survivors, depth, last, records }
         "rossinhiu_restored" ffi::Restored { session, number, record }

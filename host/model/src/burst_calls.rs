@@ -185,6 +185,25 @@ impl<'a> Drawing<'a> {
         }
         found
     }
+
+    /// The same by a gap that loses cycles to rounding, where one is met.
+    fn early_at_a_loss(&self, rng: &mut Rng) -> Option<Command> {
+        let next = self.last()? + 1;
+        for _ in 0..24 {
+            let command = self.earliest_command(rng);
+            let Command {
+                kind,
+                rank,
+                bank,
+                cycle,
+            } = command;
+            if self.played.ask(kind, rank, bank).loss > 0 {
+                let cycle = rng.pick(&[cycle - 1, cycle - 1, next]);
+                return Some(Command { cycle, ..command });
+            }
+        }
+        None
+    }
 }
 
 /// A refusal that a list meets: the place of its command, and the number, 2 to 7.
@@ -208,6 +227,22 @@ pub fn list_for(
             }
             _ => drawing.take(drawing.legal(rng)),
         }
+    }
+    drawing.list
+}
+
+/// So many commands that can stand, then one that is too early by a gap with a loss, where one is met, and the same again.
+pub fn losing_list(
+    rng: &mut Rng,
+    (state, habits): (&State, &Habits),
+    length: usize,
+) -> Vec<Command> {
+    let mut drawing = Drawing::new(state, habits, WIDEST_IN_BYTES);
+    for _ in 0..length {
+        drawing.take(drawing.legal(rng));
+    }
+    if let Some(early) = drawing.early_at_a_loss(rng) {
+        drawing.list.extend([early, early]);
     }
     drawing.list
 }
@@ -312,13 +347,14 @@ pub fn any_burst(rng: &mut Rng, state: &State, most: usize, widest: u64) -> Vec<
     let habits = Habits::any(rng);
     let length = any_length(rng, most);
     let rank = rng.below(state.session().map_or(1, |s| s.1.ranks));
-    match rng.below(11) {
+    match rng.below(12) {
         0 => return careless_list(rng, (state, &habits), length),
         1 => {
             let early = rng.between(4, 16) as usize;
             return activates_for(rng, state, rank, (length.min(16), early));
         }
         2 => return refreshes_for(rng, state, rank, length.min(12)),
+        3 => return losing_list(rng, (state, &habits), length.min(12).saturating_sub(2)),
         _ => {}
     }
     let refusal = (any_place(rng, length), rng.between(2, 7));
@@ -487,12 +523,19 @@ fn any_gaps(rng: &mut Rng) -> [u16; 20] {
 /// The rule editions that there are.
 pub(crate) const EDITIONS: usize = NEWEST_EDITION as usize + 1;
 
-/// The commands that were handed over in lists, and those of them in sessions of each edition and mode.
+/// The commands that were handed over in lists, and those of them in sessions of each edition and mode; how often an offer, a
+/// question and a list told each loss of a gap.
 #[derive(Clone, Copy, Debug, Default)]
 struct Handed {
     all: u64,
     within: [[u64; 3]; EDITIONS],
+    losses: [[u64; 4]; 3],
 }
+
+/// Where `Handed` counts the losses of each call.
+const OFFERS: usize = 0;
+const QUESTIONS: usize = 1;
+const LISTS: usize = 2;
 
 /// The model and another program, of the same calls.
 struct Pair<C> {
@@ -523,10 +566,17 @@ impl<C: Checker> Pair<C> {
                 }
             }
             3 | 4 => {
-                let list = any_burst(rng, &self.model.state, 1, self.widest);
+                let habits = Habits::any(rng);
+                let state = &self.model.state;
+                let list = match rng.chance(50) {
+                    true => losing_list(rng, (state, &habits), 0),
+                    false => any_burst(rng, state, 1, self.widest),
+                };
                 for command in list {
                     let about = format!("offer{}", words_of(&command, command.kind));
-                    same(&about, self.model.offer(command), self.other.offer(command))?;
+                    let expected = self.model.offer(command);
+                    self.count_loss(OFFERS, expected);
+                    same(&about, expected, self.other.offer(command))?;
                 }
             }
             5..=9 => self.burst_bytes(rng)?,
@@ -552,7 +602,7 @@ impl<C: Checker> Pair<C> {
     }
 
     fn open_in(&mut self, rng: &mut Rng, mode: u64) -> Result<(), String> {
-        let settings = (rng.pick(&[1, 2, 4]), rng.between(1, 2), mode);
+        let settings = (rng.pick(&[1, 2, 4, 4]), rng.between(1, 2), mode);
         let (client, gaps) = (rng.draw() as u32, any_gaps(rng));
         let expected = self.model.open(settings, client, gaps);
         let about = format!("open {settings:?} {client} {gaps:?}");
@@ -613,12 +663,21 @@ impl<C: Checker> Pair<C> {
         }
     }
 
+    /// Of an answer that names a gap.
+    fn count_loss(&mut self, call: usize, answer: Answer) {
+        if answer.gap != 0 {
+            self.handed.losses[call][answer.loss as usize] += 1;
+        }
+    }
+
     fn burst(&mut self, rng: &mut Rng) -> Result<(), String> {
         let list = any_burst(rng, &self.model.state, 200, self.widest);
         self.hand(list.len());
         let words = list.iter().map(|c| words_of(c, c.kind));
         let about = format!("burst{}", words.collect::<String>());
-        same(&about, self.model.burst(&list), self.other.burst(&list))
+        let expected = self.model.burst(&list);
+        self.count_loss(LISTS, expected.refusal);
+        same(&about, expected, self.other.burst(&list))
     }
 
     fn burst_bytes(&mut self, rng: &mut Rng) -> Result<(), String> {
@@ -631,6 +690,7 @@ impl<C: Checker> Pair<C> {
         self.hand(bytes.len() / RECORD);
         let about = format!("burst of the {} bytes {bytes:?}", bytes.len());
         let expected = self.model.burst_bytes(&bytes);
+        self.count_loss(LISTS, expected.refusal);
         same(&about, expected, self.other.burst_bytes(&bytes))
     }
 
@@ -646,11 +706,12 @@ impl<C: Checker> Pair<C> {
     }
 
     /// Status, some questions and every byte of the journal.
-    fn same_state(&self, rng: &mut Rng) -> Result<(), String> {
+    fn same_state(&mut self, rng: &mut Rng) -> Result<(), String> {
         same("status", self.model.status(), self.other.status())?;
         for _ in 0..5 {
             let (kind, rank, bank) = self.place(rng);
             let expected = self.model.ask(kind, rank, bank);
+            self.count_loss(QUESTIONS, expected);
             let about = format!("ask {kind} {rank} {bank}");
             same(&about, expected, self.other.ask(kind, rank, bank))?;
         }
@@ -707,12 +768,12 @@ pub fn compare_burst_calls<C: Checker>(
     Ok(handed)
 }
 
-/// Bursts, modes and editions that are wrong in one way, so that calls and scripts can be shown to tell.
+/// Bursts, modes, editions and losses that are wrong in one way, so that calls and scripts can be shown to tell.
 #[cfg(test)]
 pub mod wrong {
     use super::*;
     use crate::generate::{EDITION_AT, MODE_AT};
-    use crate::model::{room, Opening};
+    use crate::model::{lost, room, Opening};
 
     /// A list into a state and its journal.
     pub type Burst = fn(&mut State, &mut [u8], &[Command]) -> BurstAnswer;
@@ -723,6 +784,7 @@ pub mod wrong {
         number: 0,
         cycle: 0,
         gap: 0,
+        loss: 0,
     };
 
     /// Every command offered, the refused ones too: all answers.
@@ -763,7 +825,7 @@ pub mod wrong {
     ];
 
     /// Those that leave what they should and tell something else.
-    const TOLD: [(&str, Burst); 8] = [
+    const TOLD: [(&str, Burst); 9] = [
         ("the count one too many", |state, lent, list| {
             let mut told = state.burst(lent, list);
             told.count += usize::from(told.refusal.number != 0);
@@ -787,6 +849,11 @@ pub mod wrong {
         ("the refusal's gap missing", |state, lent, list| {
             let mut told = state.burst(lent, list);
             told.refusal.gap = 0;
+            told
+        }),
+        ("the refusal's loss missing", |state, lent, list| {
+            let mut told = state.burst(lent, list);
+            told.refusal.loss = 0;
             told
         }),
         ("the refused cycle told", |state, lent, list| {
@@ -1218,6 +1285,96 @@ pub mod wrong {
         [REFUSED.as_slice(), &JUDGED, &OF_ANOTHER_EDITION].concat()
     }
 
+    /// The loss that is told beside an answer: the state that it is an answer of, and the call's name.
+    pub type Loss = fn(&State, &str, Answer) -> u64;
+
+    pub fn right_loss(_: &State, _: &str, answer: Answer) -> u64 {
+        answer.loss
+    }
+
+    /// What a gap loses in the session in force; 0 without a session, and with gap 0.
+    fn loss_of(state: &State, gap: u64) -> u64 {
+        let session = state.session().filter(|_| gap != 0);
+        session.map_or(0, |(_, o)| lost(o.gaps[gap as usize - 1], o.ratio))
+    }
+
+    /// A gap and the ratio of the session in force, where an answer names one.
+    fn named(state: &State, answer: Answer) -> Option<(u16, u64)> {
+        let (_, opening) = state.session().filter(|_| answer.gap != 0)?;
+        Some((opening.gaps[answer.gap as usize - 1], opening.ratio))
+    }
+
+    /// Those that reckon the loss in another way, or of another gap.
+    const RECKONED: [(&str, Loss); 8] = [
+        ("the remainder of the gap", |state, _, answer| {
+            named(state, answer).map_or(0, |(gap, ratio)| u64::from(gap) % ratio)
+        }),
+        ("a ratio where it divides the gap", |state, _, answer| {
+            let by_one = |(gap, ratio)| ratio - u64::from(gap) % ratio;
+            named(state, answer).map_or(0, by_one)
+        }),
+        ("in controller cycles", |state, _, answer| {
+            named(state, answer).map_or(0, |(_, ratio)| answer.loss / ratio)
+        }),
+        ("in controller cycles, rounded up", |_, _, answer| {
+            answer.loss.min(1)
+        }),
+        ("one bit of it", |_, _, answer| answer.loss % 2),
+        ("that of gap 1", |state, _, answer| {
+            loss_of(state, answer.gap.min(1))
+        }),
+        ("that of the next gap", |state, _, answer| {
+            loss_of(state, answer.gap % 20 + u64::from(answer.gap != 0))
+        }),
+        ("by the first opening's ratio", |state, _, answer| {
+            let ratio = state.records.iter().find_map(|record| match record {
+                Record::Opening(opening) => Some(opening.ratio),
+                _ => None,
+            });
+            let by_first = |(gap, own)| lost(gap, ratio.unwrap_or(own));
+            named(state, answer).map_or(0, by_first)
+        }),
+    ];
+
+    /// Those that leave it out beside an answer, or tell it beside one that has none.
+    const PLACED: [(&str, Loss); 6] = [
+        ("left out of offers", |_, call, answer| match call {
+            "offer" => 0,
+            _ => answer.loss,
+        }),
+        ("left out of questions", |_, call, answer| match call {
+            "ask" => 0,
+            _ => answer.loss,
+        }),
+        ("left out of bursts", |_, call, answer| match call {
+            "burst" => 0,
+            _ => answer.loss,
+        }),
+        ("told of accepted offers", |state, call, answer| {
+            match (call, answer.number) {
+                ("offer", 0) => loss_of(state, 3),
+                _ => answer.loss,
+            }
+        }),
+        ("told with gap 0", |state, call, answer| {
+            match (call, answer.number, answer.gap) {
+                ("ask", 0, 0) => loss_of(state, 3),
+                _ => answer.loss,
+            }
+        }),
+        ("told of other refusals", |state, _, answer| {
+            match answer.number {
+                0 | 7 => answer.loss,
+                _ => loss_of(state, 3),
+            }
+        }),
+    ];
+
+    /// Each is right but for what its name says.
+    pub fn losses() -> Vec<(&'static str, Loss)> {
+        [RECKONED.as_slice(), &PLACED].concat()
+    }
+
     /// A program with one of them, or the right ones.
     pub struct Program {
         pub model: Model,
@@ -1225,6 +1382,14 @@ pub mod wrong {
         pub cut: Cut,
         pub open: Open,
         pub restore: Restore,
+        pub loss: Loss,
+    }
+
+    impl Program {
+        fn told(&self, call: &str, answer: Answer) -> Answer {
+            let loss = (self.loss)(&self.model.state, call, answer);
+            Answer { loss, ..answer }
+        }
     }
 
     /// Single offers in a row, and not the model's own burst: what was accepted is counted by its records.
@@ -1244,19 +1409,22 @@ pub mod wrong {
             (self.open)(&mut self.model, settings, client, gaps)
         }
         fn offer(&mut self, command: Command) -> Answer {
-            self.model.offer(command)
+            let answer = self.model.offer(command);
+            self.told("offer", answer)
         }
         fn back(&mut self) -> u64 {
             self.model.back()
         }
         fn burst(&mut self, list: &[Command]) -> BurstAnswer {
-            (self.burst)(&mut self.model.state, &mut self.model.journal, list)
+            let told = (self.burst)(&mut self.model.state, &mut self.model.journal, list);
+            let refusal = self.told("burst", told.refusal);
+            BurstAnswer { refusal, ..told }
         }
         fn burst_bytes(&mut self, pieces: &[u8]) -> BurstAnswer {
             self.burst(&(self.cut)(pieces))
         }
         fn ask(&self, kind: u64, rank: u64, bank: u64) -> Answer {
-            self.model.ask(kind, rank, bank)
+            self.told("ask", self.model.ask(kind, rank, bank))
         }
         fn status(&self) -> Status {
             self.model.status()
@@ -1283,7 +1451,13 @@ mod tests {
     use std::collections::BTreeMap;
 
     fn compared(seed: u64, rounds: u64, calls: (wrong::Burst, wrong::Cut)) -> Result<u64, String> {
-        compared_with(seed, rounds, calls, wrong::RIGHT_OPENINGS)
+        compared_with(
+            seed,
+            rounds,
+            calls,
+            wrong::RIGHT_OPENINGS,
+            wrong::right_loss,
+        )
     }
 
     fn compared_with(
@@ -1291,6 +1465,7 @@ mod tests {
         rounds: u64,
         (burst, cut): (wrong::Burst, wrong::Cut),
         (open, restore): (wrong::Open, wrong::Restore),
+        loss: wrong::Loss,
     ) -> Result<u64, String> {
         compare_burst_calls(seed, rounds, u64::MAX, |journal| wrong::Program {
             model: Model::new(journal),
@@ -1298,6 +1473,7 @@ mod tests {
             cut,
             open,
             restore,
+            loss,
         })
     }
 
@@ -1333,10 +1509,36 @@ mod tests {
     fn wrong_openings_are_found_wrong() {
         for (name, openings) in wrong::openings() {
             for seed in [1, 1_000] {
-                let report = compared_with(seed, 60, wrong::RIGHT, openings).expect_err(name);
+                let played = compared_with(seed, 60, wrong::RIGHT, openings, wrong::right_loss);
+                let report = played.expect_err(name);
                 assert!(report.contains("expected "), "{name}");
             }
         }
+    }
+
+    #[test]
+    fn wrong_losses_are_found_wrong() {
+        for (name, loss) in wrong::losses() {
+            for seed in [1, 1_000] {
+                let (right, openings) = (wrong::RIGHT, wrong::RIGHT_OPENINGS);
+                let report = compared_with(seed, 60, right, openings, loss).expect_err(name);
+                assert!(report.contains("expected "), "{name}");
+            }
+        }
+    }
+
+    /// Calls that never lose anything could not show a loss that is wrong.
+    #[test]
+    fn every_loss_is_told_by_every_call() {
+        let mut losses = [[0; 4]; 3];
+        for seed in 0..300 {
+            let handed = play_round(Rng::new(seed), u64::MAX, Model::new).unwrap();
+            for (call, loss) in (0..12).map(|n| (n / 4, n % 4)) {
+                losses[call][loss] += handed.losses[call][loss];
+            }
+        }
+        println!("losses 0 to 3 of offers, questions, lists: {losses:?}");
+        assert!(losses.iter().flatten().all(|n| *n >= 5), "{losses:?}");
     }
 
     /// Calls that reach little of a mode or an edition could not show a fault in it.
@@ -1397,6 +1599,7 @@ mod tests {
             number,
             cycle: 0,
             gap: 0,
+            loss: 0,
         }
     }
 

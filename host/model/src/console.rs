@@ -92,8 +92,14 @@ pub(crate) fn commands(words: &[&[u8]]) -> Option<Vec<Command>> {
     words.chunks(4).map(command).collect()
 }
 
-fn with_place(word: &str, answer: Answer) -> String {
-    format!("{word} {} {} {}", answer.number, answer.cycle, answer.gap)
+pub(crate) fn with_place(word: &str, answer: Answer) -> String {
+    let Answer {
+        number,
+        cycle,
+        gap,
+        loss,
+    } = answer;
+    format!("{word} {number} {cycle} {gap} {loss}")
 }
 
 pub(crate) fn burst_answer(answer: BurstAnswer) -> String {
@@ -460,25 +466,25 @@ mod tests {
     #[test]
     fn bursts_are_told() {
         for (line, told, status) in [
-            ("burst", "0 0 0 0", "0 0 0 1"),
-            ("burst ACT 0 0 0", "1 0 0 0", "1 1 0 2"),
-            ("burst 1 0 0 0 2 0 0 5", "2 0 0 0", "2 2 5 3"),
-            ("burst ACT 0 0 0 RD 0 0 4 RD 0 0 5", "1 7 5 3", "1 1 0 2"),
-            ("burst ACT 0 0 7 RD 0 0 7", "1 6 0 0", "1 1 7 2"),
-            ("burst ACT 0 0 0 8 0 0 5", "1 2 0 0", "1 1 0 2"),
-            ("burst ACT 0 0 0 257 0 0 5", "1 2 0 0", "1 1 0 2"),
-            ("burst ACT 0 0 0 RD 4294967296 0 5", "1 3 0 0", "1 1 0 2"),
-            ("burst PREAB 0 1 0 ACT 0 0 0", "0 4 0 0", "0 0 0 1"),
-            ("burst ACT 0 0 1099511627776", "0 5 0 0", "0 0 0 1"),
+            ("burst", "0 0 0 0 0", "0 0 0 1"),
+            ("burst ACT 0 0 0", "1 0 0 0 0", "1 1 0 2"),
+            ("burst 1 0 0 0 2 0 0 5", "2 0 0 0 0", "2 2 5 3"),
+            ("burst ACT 0 0 0 RD 0 0 4 RD 0 0 5", "1 7 5 3 2", "1 1 0 2"),
+            ("burst ACT 0 0 7 RD 0 0 7", "1 6 0 0 0", "1 1 7 2"),
+            ("burst ACT 0 0 0 8 0 0 5", "1 2 0 0 0", "1 1 0 2"),
+            ("burst ACT 0 0 0 257 0 0 5", "1 2 0 0 0", "1 1 0 2"),
+            ("burst ACT 0 0 0 RD 4294967296 0 5", "1 3 0 0 0", "1 1 0 2"),
+            ("burst PREAB 0 1 0 ACT 0 0 0", "0 4 0 0 0", "0 0 0 1"),
+            ("burst ACT 0 0 1099511627776", "0 5 0 0 0", "0 0 0 1"),
             (
                 "burst ACT 0 0 1099511627775 RD 0 0 1099511627776",
-                "1 5 0 0",
+                "1 5 0 0 0",
                 "1 1 1099511627775 2",
             ),
-            ("burst 18446744073709551615 0 0 0", "0 2 0 0", "0 0 0 1"),
+            ("burst 18446744073709551615 0 0 0", "0 2 0 0 0", "0 0 0 1"),
             (
                 "burst 0001 00 0000000000000000000000000 00",
-                "1 0 0 0",
+                "1 0 0 0 0",
                 "1 1 0 2",
             ),
         ] {
@@ -495,12 +501,12 @@ mod tests {
     /// With no session: nothing is accepted with 0, something is refused with 1.
     #[test]
     fn bursts_without_a_session() {
-        assert_eq!(one_line("burst"), "burst 0 0 0 0\n");
-        assert_eq!(one_line(" \tburst \t \r"), "burst 0 0 0 0\n");
-        assert_eq!(one_line("burst ACT 0 0 0"), "burst 0 1 0 0\n");
+        assert_eq!(one_line("burst"), "burst 0 0 0 0 0\n");
+        assert_eq!(one_line(" \tburst \t \r"), "burst 0 0 0 0 0\n");
+        assert_eq!(one_line("burst ACT 0 0 0"), "burst 0 1 0 0 0\n");
         assert_eq!(
             one_line("burst 9 9 99 18446744073709551615"),
-            "burst 0 1 0 0\n"
+            "burst 0 1 0 0 0\n"
         );
         assert_eq!(printed(b"burst"), "?\n");
     }
@@ -539,11 +545,11 @@ mod tests {
         assert_eq!(most.len(), 4_093);
         let full = |line: &str, length: usize| format!("{line:0<length$}");
         let told = |line: &str| answers(false, &[line]).remove(0);
-        assert_eq!(told(&most), "burst 1 6 0 0");
-        assert_eq!(told(&full(&most, 4_096)), "burst 1 6 0 0");
+        assert_eq!(told(&most), "burst 1 6 0 0 0");
+        assert_eq!(told(&full(&most, 4_096)), "burst 1 6 0 0 0");
         assert_eq!(told(&full(&most, 4_097)), "?");
         assert_eq!(told(&format!("{most} 1 0 0 0")), "?");
-        assert_eq!(told(&format!("{most}  \r")), "burst 1 6 0 0");
+        assert_eq!(told(&format!("{most}  \r")), "burst 1 6 0 0 0");
         assert_eq!(told(&format!("{most}   \r")), "?");
     }
 
@@ -558,8 +564,8 @@ mod tests {
             );
             let due = [
                 "lend 191",
-                "burst 1 9 0 0",
-                "burst 0 0 0 0",
+                "burst 1 9 0 0 0",
+                "burst 0 0 0 0 0",
                 "status 0 7 0 1 1 0 2",
             ];
             assert_eq!(told[..4], due);
@@ -576,23 +582,23 @@ mod tests {
         for (line, due) in [
             (refused.as_str(), "open 10"),
             (&first, "open 0"),
-            ("offer RD 0 0 10", "offer 0 10 0"),
-            ("ask RD 0 3", "ask 0 18 6"),
-            ("ask RD 0 4", "ask 0 16 7"),
+            ("offer RD 0 0 10", "offer 0 10 0 0"),
+            ("ask RD 0 3", "ask 0 18 6 0"),
+            ("ask RD 0 4", "ask 0 16 7 0"),
             (&refused, "open 10"),
             ("poke 3 1", "poke 3 1"),
-            ("ask RD 0 3", "ask 0 18 6"),
+            ("ask RD 0 3", "ask 0 18 6 0"),
             ("restore 128", "restore 0 0"),
-            ("ask RD 0 1", "ask 0 18 6"),
-            ("ask RD 0 2", "ask 0 16 7"),
-            ("burst RD 0 2 16 RD 0 3 23", "burst 1 7 24 6"),
-            ("offer RD 0 0 21", "offer 7 22 7"),
+            ("ask RD 0 1", "ask 0 18 6 0"),
+            ("ask RD 0 2", "ask 0 16 7 0"),
+            ("burst RD 0 2 16 RD 0 3 23", "burst 1 7 24 6 0"),
+            ("offer RD 0 0 21", "offer 7 22 7 0"),
             ("back", "back 0"),
             ("status", "status 0 7 0 1 1 10 4"),
             (&refused, "open 10"),
             ("poke 3 3", "poke 3 3"),
             ("restore 128", "restore 11 0"),
-            ("ask RD 0 2", "ask 1 0 0"),
+            ("ask RD 0 2", "ask 1 0 0 0"),
         ] {
             assert_eq!(console.line(line.as_bytes(), true).unwrap(), due, "{line}");
         }
@@ -606,27 +612,27 @@ mod tests {
         for (line, due) in [
             (opening.as_str(), "open 0"),
             ("bytes 48 2", "bytes 0100"),
-            ("offer PREPB 1 9 10", "offer 0 10 0"),
-            ("ask REFAB 0 0", "ask 0 11 0"),
-            ("ask REFAB 1 0", "ask 0 31 15"),
-            ("offer REFAB 1 0 30", "offer 7 31 15"),
-            ("burst PREAB 0 0 11 REFPB 0 4 31", "burst 1 7 32 15"),
+            ("offer PREPB 1 9 10", "offer 0 10 0 0"),
+            ("ask REFAB 0 0", "ask 0 11 0 0"),
+            ("ask REFAB 1 0", "ask 0 31 15 0"),
+            ("offer REFAB 1 0 30", "offer 7 31 15 0"),
+            ("burst PREAB 0 0 11 REFPB 0 4 31", "burst 1 7 32 15 0"),
             ("poke 48 0", "poke 48 0"),
-            ("ask REFPB 0 4", "ask 0 32 15"),
+            ("ask REFPB 0 4", "ask 0 32 15 0"),
             ("restore 192", "restore 0 0"),
-            ("ask REFPB 0 4", "ask 0 12 0"),
-            ("offer REFAB 1 0 12", "offer 0 12 0"),
-            ("burst REFPB 0 4 13 REFPB 0 4 14", "burst 1 7 153 18"),
+            ("ask REFPB 0 4", "ask 0 12 0 0"),
+            ("offer REFAB 1 0 12", "offer 0 12 0 0"),
+            ("burst REFPB 0 4 13 REFPB 0 4 14", "burst 1 7 153 18 0"),
             ("back", "back 0"),
             ("status", "status 0 7 0 3 3 12 6"),
             ("bytes 48 2", "bytes 0000"),
             ("poke 48 1", "poke 48 1"),
             ("restore 384", "restore 11 3"),
             ("restore 192", "restore 0 0"),
-            ("offer REFAB 1 0 30", "offer 7 31 15"),
+            ("offer REFAB 1 0 30", "offer 7 31 15 0"),
             ("poke 48 2", "poke 48 2"),
             ("restore 192", "restore 11 0"),
-            ("ask REFAB 1 0", "ask 1 0 0"),
+            ("ask REFAB 1 0", "ask 1 0 0 0"),
             ("poke 48 0", "poke 48 0"),
             ("poke 49 1", "poke 49 1"),
             ("restore 64", "restore 11 0"),
@@ -635,12 +641,51 @@ mod tests {
             (&opening, "open 0"),
             ("bytes 432 2", "bytes 0100"),
             ("bytes 48 2", "bytes 0000"),
-            ("burst PREAB 0 0 0 REFPB 0 15 20", "burst 1 7 21 15"),
+            ("burst PREAB 0 0 0 REFPB 0 15 20", "burst 1 7 21 15 0"),
             ("restore 384", "restore 0 0"),
-            ("ask REFAB 0 0", "ask 0 32 15"),
-            ("ask REFPB 0 15", "ask 0 13 0"),
+            ("ask REFAB 0 0", "ask 0 32 15 0"),
+            ("ask REFPB 0 15", "ask 0 13 0 0"),
         ] {
             assert_eq!(console.line(line.as_bytes(), true).unwrap(), due, "{line}");
+        }
+    }
+
+    /// The last word of an offer, a question and a burst: what the named gap loses, 0 beside everything else.
+    #[test]
+    fn losses_are_told() {
+        let second = crate::generate::opening_a().replacen("4 1 0", "2 1 2", 1);
+        for in_file in [false, true] {
+            let lines = [
+                ("ask ACT 0 0", "ask 0 0 0 0"),
+                ("offer ACT 0 0 0", "offer 0 0 0 0"),
+                ("ask RD 0 0", "ask 0 5 3 2"),
+                ("ask ACT 0 0", "ask 0 15 1 0"),
+                ("offer RD 0 0 4", "offer 7 5 3 2"),
+                ("burst RD 0 0 5 PREPB 0 0 10 RD 0 0 20", "burst 1 7 11 4 2"),
+                ("ask PREPB 0 1", "ask 0 6 0 0"),
+                ("offer RD 0 0 5", "offer 6 0 0 0"),
+                ("burst RD 0 0 5", "burst 0 6 0 0 0"),
+                ("offer PREAB 0 0 11", "offer 0 11 0 0"),
+                ("burst REFPB 0 3 16", "burst 0 7 17 15 3"),
+                ("offer REFAB 0 0 12", "offer 7 17 15 3"),
+                ("ask REFPB 0 3", "ask 0 17 15 3"),
+                ("ask 9 0 0", "ask 2 0 0 0"),
+                ("ask ACT 1 0", "ask 3 0 0 0"),
+                ("offer REFAB 0 1 17", "offer 4 0 0 0"),
+                ("burst", "burst 0 0 0 0 0"),
+                (&second, "open 0"),
+                ("burst RD 0 3 10 PREPB 0 3 13", "burst 1 7 14 9 1"),
+                ("ask PREPB 0 3", "ask 0 14 9 1"),
+                ("ask RD 0 4", "ask 0 13 7 0"),
+                ("lend 0", "lend 0"),
+                ("offer PREPB 0 3 13", "offer 7 14 9 1"),
+                ("offer PREPB 0 3 14", "offer 9 0 0 0"),
+                ("burst PREPB 0 3 14", "burst 0 9 0 0 0"),
+            ];
+            let told = answers(in_file, &lines.map(|line| line.0));
+            for ((line, due), told) in lines.iter().zip(told) {
+                assert_eq!(told, *due, "{line}");
+            }
         }
     }
 }

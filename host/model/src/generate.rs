@@ -10,6 +10,7 @@ use crate::model::{
 use crate::sheet_calls::{any_sheet, malformed_gaps_line, sheet_of};
 
 mod bursts;
+mod losses;
 mod openings;
 
 pub use openings::{
@@ -284,6 +285,7 @@ enum Act {
     SpoilOpening,
     Columns,
     Refreshes,
+    Losses,
     Lend,
     FillRoom,
     Cut,
@@ -468,7 +470,9 @@ impl Player {
 
     fn note(&mut self, answer: &str) {
         let words: Vec<&str> = answer.split(' ').collect();
-        if let ["offer" | "ask", "0" | "7", _, gap] | ["burst", _, "7", _, gap] = words.as_slice() {
+        if let ["offer" | "ask", "0" | "7", _, gap, _] | ["burst", _, "7", _, gap, _] =
+            words.as_slice()
+        {
             if let Ok(gap) = gap.parse::<usize>() {
                 self.named[gap] += 1;
             }
@@ -665,7 +669,8 @@ impl Player {
 
     /// A ratio, ranks and a mode.
     fn settings(&mut self) -> (u64, u64, u64) {
-        let ratio = self.rng.pick(&[1, 2, 4]);
+        // With 4 a gap can lose most.
+        let ratio = self.rng.pick(&[1, 2, 4, 4]);
         let ranks = match self.mood {
             Mood::TwoRanks => 2,
             _ => self.rng.between(1, 2),
@@ -1718,6 +1723,7 @@ impl Player {
                 (SpoilOpening, 1),
                 (Columns, 3),
                 (Refreshes, 4),
+                (Losses, 3),
             ],
             Mood::SecondThoughts => &[
                 (Offer, 40),
@@ -1734,6 +1740,7 @@ impl Player {
                 (SpoilOpening, 1),
                 (Columns, 3),
                 (Refreshes, 4),
+                (Losses, 3),
             ],
             Mood::Deep => &[
                 (Run, 20),
@@ -1747,6 +1754,7 @@ impl Player {
                 (SpoilOpening, 1),
                 (Columns, 2),
                 (Refreshes, 3),
+                (Losses, 3),
             ],
             Mood::Clients => &[
                 (Offer, 50),
@@ -1765,6 +1773,7 @@ impl Player {
                 (SpoilOpening, 1),
                 (Columns, 3),
                 (Refreshes, 4),
+                (Losses, 3),
             ],
             Mood::TwoRanks => &[
                 (Offer, 60),
@@ -1780,6 +1789,7 @@ impl Player {
                 (SpoilOpening, 1),
                 (Columns, 3),
                 (Refreshes, 4),
+                (Losses, 3),
             ],
             Mood::FourActivates => &[
                 (Offer, 50),
@@ -1794,6 +1804,7 @@ impl Player {
                 (SpoilOpening, 1),
                 (Columns, 2),
                 (Refreshes, 3),
+                (Losses, 3),
             ],
             Mood::Limit => &[
                 (Offer, 40),
@@ -1811,6 +1822,7 @@ impl Player {
                 (SpoilOpening, 1),
                 (Columns, 2),
                 (Refreshes, 3),
+                (Losses, 3),
             ],
             Mood::Room => &[
                 (Offer, 20),
@@ -1828,6 +1840,7 @@ impl Player {
                 (SpoilOpening, 1),
                 (Columns, 2),
                 (Refreshes, 3),
+                (Losses, 3),
             ],
             Mood::Cuts => &[
                 (Offer, 40),
@@ -1847,6 +1860,7 @@ impl Player {
                 (SpoilOpening, 1),
                 (Columns, 2),
                 (Refreshes, 3),
+                (Losses, 3),
             ],
             Mood::Damage => &[
                 (Offer, 40),
@@ -1863,6 +1877,7 @@ impl Player {
                 (SpoilOpening, 1),
                 (Columns, 2),
                 (Refreshes, 3),
+                (Losses, 3),
             ],
             Mood::Malformed => &[
                 (Offer, 25),
@@ -1875,6 +1890,7 @@ impl Player {
                 (SpoilOpening, 1),
                 (Columns, 2),
                 (Refreshes, 3),
+                (Losses, 3),
             ],
             Mood::Wild => &[
                 (Offer, 25),
@@ -1891,6 +1907,7 @@ impl Player {
                 (SpoilOpening, 1),
                 (Columns, 2),
                 (Refreshes, 3),
+                (Losses, 3),
             ],
             Mood::Mixed => &[
                 (Offer, 60),
@@ -1916,6 +1933,7 @@ impl Player {
                 (SpoilOpening, 1),
                 (Columns, 3),
                 (Refreshes, 4),
+                (Losses, 3),
             ],
         }
     }
@@ -1951,6 +1969,7 @@ impl Player {
             Act::SpoilOpening => self.spoil_opening(),
             Act::Columns => self.columns(),
             Act::Refreshes => self.refreshes(),
+            Act::Losses => self.losses(),
             Act::Lend => self.lend(),
             Act::FillRoom => self.fill_room(),
             Act::Cut => self.cut(),
@@ -2412,7 +2431,7 @@ mod tests {
     #[test]
     fn scripts_end_without_a_newline() {
         let (mut cut, mut silent, mut opened, mut offered) = (0, 0, 0, 0);
-        for seed in 0..104 {
+        for seed in 0..156 {
             let lines = script(seed, 120).lines;
             let (last, before) = lines.split_last().unwrap();
             if last.sent.ends_with(b"\n") {
@@ -2448,7 +2467,7 @@ mod tests {
                 let words: Vec<&str> = text.split(' ').collect();
                 let mut keys = vec![words.iter().take(2).copied().collect::<Vec<_>>().join(" ")];
                 match words.as_slice() {
-                    ["offer", "7", _, gap] | ["ask", "0", _, gap] => {
+                    ["offer", "7", _, gap, _] | ["ask", "0", _, gap, _] => {
                         keys.push(format!("{} gap {gap}", words[0]));
                     }
                     ["status", "0", _, _, survivors, depth, ..] => {

@@ -201,7 +201,7 @@ pub struct Ran {
     is_tool: bool,
 }
 
-/// Where document 01's number stands among an answer's words; none if it has no number. A cycle and a gap stand behind it.
+/// Where document 01's number stands among an answer's words; none if it has no number. A cycle, a gap and its loss stand behind it.
 pub fn number_at(words: &[&str]) -> Option<usize> {
     match words[0] {
         "open" | "offer" | "ask" | "back" | "status" | "restore" | "gaps" => Some(1),

@@ -1,5 +1,6 @@
 //! Journals that earlier versions wrote, kept as they were: each still restores, is listed as it was then, and its last session goes on as it did.
-//! `NAME.out` is what the version that wrote `NAME.journal` answered to `NAME.trace` over it, `NAME.list` its listing.
+//! `NAME.out` is what the version that wrote `NAME.journal` answered to `NAME.trace` over it, with the losses that request 2026-06 put behind these
+//! answers; `NAME.list` is its listing.
 
 use rossinhiu_model::file::FileConsole;
 use rossinhiu_model::harness::*;

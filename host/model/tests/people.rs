@@ -54,7 +54,14 @@ fn examples_print_what_is_written(programs: &Programs) {
             names.insert(front.to_string());
         }
     }
-    for name in ["first", "settings-a", "odd-gaps", "data-sheet", "burst"] {
+    for name in [
+        "first",
+        "settings-a",
+        "odd-gaps",
+        "data-sheet",
+        "burst",
+        "ratio",
+    ] {
         let trace = bytes(&format!("{name}.trace"));
         let expected = text(&format!("{name}.out"));
         assert_eq!(modelled(&trace), expected, "{name} by the model");
@@ -67,6 +74,27 @@ fn examples_print_what_is_written(programs: &Programs) {
         assert!(names.remove(name));
     }
     assert!(names.is_empty(), "no test plays {names:?}");
+}
+
+/// The guide's table of what the ratio costs is what its own command prints, and has a loss of each size.
+#[test]
+fn what_the_ratio_costs() {
+    let _turn = turn();
+    let guide = fs::read_to_string(top().join("docs/GUIDE.md")).unwrap();
+    let start = "    rossinhiu bench < examples/ratio.trace";
+    let line = guide.lines().find(|line| line.starts_with(start)).unwrap();
+    let mut shell = command(Path::new("sh"), &[]);
+    shell.args(["-c", &line.replace("rossinhiu ", "\"$0\" ")]);
+    shell.arg(&tool(&["bench"]).path);
+    let table = run(shell.current_dir(top()), b"").text();
+    assert!(guide.contains(&format!("\n\n{table}\n")), "{table}");
+    let rows: Vec<&str> = table.lines().skip(2).collect();
+    assert_eq!(rows.len(), 20);
+    let last: BTreeSet<&str> = rows
+        .iter()
+        .map(|row| row.trim_end_matches(" |").rsplit(' ').next().unwrap())
+        .collect();
+    assert_eq!(last, BTreeSet::from(["-", "0", "1", "2", "3"]));
 }
 
 /// Settings A in the example are document 01's, as the model has them.
@@ -201,9 +229,9 @@ fn the_guide_plays_bursts() {
     let trace = format!("{}\n{}\n", opening_a(), typed.join("\n"));
     let due = format!("open 0\n{}\n", told.join("\n"));
     assert_eq!(modelled(trace.as_bytes()), due);
-    assert!(told.contains(&"burst 1 7 13 4"));
-    assert!(section.contains("`7 13 4`") && section.contains("`burst 0 0 0 0`"));
-    assert_eq!(modelled(b"burst\n"), "burst 0 0 0 0\n");
+    assert!(told.contains(&"burst 1 7 13 4 2"));
+    assert!(section.contains("`7 13 4 2`") && section.contains("`burst 0 0 0 0 0`"));
+    assert_eq!(modelled(b"burst\n"), "burst 0 0 0 0 0\n");
 }
 
 // Traces of power tools.
@@ -261,9 +289,9 @@ fn bench_help_has_the_forms_and_the_numbers() {
         "bench FILE",
         "bench --help",
         "open RATIO RANKS MODE CLIENT G1 .. G20 open N",
-        "offer KIND RANK BANK CYCLE offer N CYCLE GAP",
-        "burst KIND RANK BANK CYCLE .. burst COUNT N CYCLE GAP",
-        "ask KIND RANK BANK ask N CYCLE GAP",
+        "offer KIND RANK BANK CYCLE offer N CYCLE GAP LOSS",
+        "burst KIND RANK BANK CYCLE .. burst COUNT N CYCLE GAP LOSS",
+        "ask KIND RANK BANK ask N CYCLE GAP LOSS",
         "back back N",
         "status status N CLIENT OPENING SURVIVORS DEPTH LAST RECORDS",
         "stretch stretch LENGTH HEX",

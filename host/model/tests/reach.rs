@@ -100,15 +100,45 @@ fn every_end_of_a_burst_is_reached() {
     assert_eq!(ends(false), BTreeSet::from([0, 1, 2, 3, 4, 5, 7, 9]));
     assert_eq!(ends(true), BTreeSet::from([0, 2, 3, 4, 5, 6, 7, 9]));
     // More than can be taken back, in one line.
-    assert!(text.contains("\nburst 66 0 0 0\n"));
+    assert!(text.contains("\nburst 66 0 0 0 0\n"));
+}
+
+/// Every loss of a named gap, told of an offer, a question and a burst; and none beside the answers that name no gap.
+#[test]
+fn every_loss_is_reached() {
+    let text = String::from_utf8(file("stdout")).expect("answers are plain text");
+    let mut seen = BTreeSet::new();
+    for line in text.lines() {
+        let words: Vec<&str> = line.split(' ').collect();
+        let told = match words.as_slice() {
+            [call @ ("offer" | "ask"), number, _, gap, loss] => (call, number, gap, loss),
+            [call @ "burst", _, number, _, gap, loss] => (call, number, gap, loss),
+            ["offer" | "ask" | "burst", ..] => panic!("no loss: {line}"),
+            _ => continue,
+        };
+        let (call, number, gap, loss) = told;
+        assert!(*gap != "0" || *loss == "0", "{line}");
+        let what = if *gap == "0" { "no gap" } else { loss };
+        seen.insert(format!("{call} {number}: {what}"));
+    }
+    for call in ["offer 7", "ask 0", "burst 7"] {
+        let due = (0..4).map(|loss| format!("{call}: {loss}"));
+        let missing: Vec<String> = due.filter(|key| !seen.contains(key)).collect();
+        assert!(missing.is_empty(), "{missing:?}");
+    }
+    for call in [
+        "offer 0", "ask 0", "burst 0", "offer 6", "offer 9", "burst 9",
+    ] {
+        assert!(seen.contains(&format!("{call}: no gap")), "{call}");
+    }
 }
 
 /// What an answer shows of the mode of the session that it leaves.
 fn shown(mode: u64, answer: &str) -> Option<String> {
     let words: Vec<&str> = answer.trim_end().split(' ').collect();
     let what = match words.as_slice() {
-        [call @ ("offer" | "burst"), .., "7", _, gap] => format!("{call} 7 by {gap}"),
-        ["ask", "0", _, gap] => format!("ask 0 by {gap}"),
+        [call @ ("offer" | "burst"), .., "7", _, gap, _] => format!("{call} 7 by {gap}"),
+        ["ask", "0", _, gap, _] => format!("ask 0 by {gap}"),
         ["burst", _, number, ..] => format!("burst {number}"),
         [call @ ("offer" | "back" | "restore" | "open"), number, ..] => format!("{call} {number}"),
         _ => return None,

@@ -230,7 +230,7 @@ fn a_full_journal_restores(programs: &Programs) {
     );
     let ran = run(&mut command(&programs.bench(), &[&path]), input.as_bytes());
     let expected =
-        "restore 0 0\nstatus 0 7 65535 0 0 0 65536\nopen 9\noffer 9 0 0\nback 8\nask 0 0 0\n";
+        "restore 0 0\nstatus 0 7 65535 0 0 0 65536\nopen 9\noffer 9 0 0 0\nback 8\nask 0 0 0 0\n";
     assert_eq!(ran.text(), expected);
     assert_eq!(ran.said(), "");
     assert_file(&path, &bytes, "a full journal");
@@ -238,7 +238,7 @@ fn a_full_journal_restores(programs: &Programs) {
     fs::write(&path, &bytes[..JOURNAL - 1]).unwrap();
     let ran = run(&mut command(&programs.bench(), &[&path]), input.as_bytes());
     let expected =
-        "restore 0 0\nstatus 0 7 65534 0 0 0 65535\nopen 0\noffer 9 0 0\nback 8\nask 0 0 0\n";
+        "restore 0 0\nstatus 0 7 65534 0 0 0 65535\nopen 0\noffer 9 0 0 0\nback 8\nask 0 0 0 0\n";
     assert_eq!(ran.text(), expected);
     assert_eq!(ran.said(), "");
     assert_file(&path, &bytes, "the last place taken");
@@ -253,9 +253,9 @@ fn the_mode_of_a_stored_opening(programs: &Programs) {
     let input =
         format!("offer RD 0 0 10\nask RD 0 1\nask RD 0 2\nask RD 0 4\n{refused}\nback\nstatus\n");
     for (mode, asks) in [
-        (0, Some(["18 5", "18 5", "18 5"])),
-        (1, Some(["18 6", "16 7", "16 7"])),
-        (2, Some(["18 6", "18 6", "16 7"])),
+        (0, Some(["18 5 0", "18 5 0", "18 5 0"])),
+        (1, Some(["18 6 0", "16 7 0", "16 7 0"])),
+        (2, Some(["18 6 0", "18 6 0", "16 7 0"])),
         (3, None),
         (255, None),
     ] {
@@ -274,7 +274,7 @@ fn the_mode_of_a_stored_opening(programs: &Programs) {
             continue;
         };
         let expected = format!(
-            "restore 0 0\noffer 0 10 0\nask 0 {two}\nask 0 {four}\nask 0 {far}\nopen 10\nback 0\nstatus 0 7 0 0 0 0 3\n"
+            "restore 0 0\noffer 0 10 0 0\nask 0 {two}\nask 0 {four}\nask 0 {far}\nopen 10\nback 0\nstatus 0 7 0 0 0 0 3\n"
         );
         assert_eq!(ran.text(), expected, "{mode}");
         assert_eq!(listed.text(), "0 open 7\n1 RD 0 0 10\n2 back\nend 3 0\n");

@@ -107,7 +107,7 @@ fn a_second_one_is_refused() {
         asked(&["list", name(&path)], b"").text(),
         "0 open 7\nend 1 0\n"
     );
-    assert_eq!(first.ask("offer ACT 0 0 0"), "offer 0 0 0\n");
+    assert_eq!(first.ask("offer ACT 0 0 0"), "offer 0 0 0 0\n");
     assert_eq!(first.ask("status"), "status 0 7 0 1 1 0 2\n");
     // Killed, it holds the file no longer.
     first.child.kill().unwrap();
@@ -376,7 +376,7 @@ fn the_room_is_what_was_asked_for() {
     let _turn = turn();
     let input = format!("lend 18446744073709551615\n{}\noffer ACT 0 0 0\noffer RD 0 0 9\noffer RD 0 0 18\nbytes 192 0\nbytes 193 0\nbytes 191 1\nrestore 999\nstatus\n", opening_a());
     let ran = asked(&["bench", "--records", "3"], input.as_bytes());
-    let expected = "lend 192\nopen 0\noffer 0 0 0\noffer 0 9 0\noffer 9 0 0\nbytes\n?\nbytes 00\nrestore 0 0\nstatus 0 7 0 2 2 9 3\n";
+    let expected = "lend 192\nopen 0\noffer 0 0 0 0\noffer 0 9 0 0\noffer 9 0 0 0\nbytes\n?\nbytes 00\nrestore 0 0\nstatus 0 7 0 2 2 9 3\n";
     assert_eq!(ran.text(), expected);
     let folder = Folder::new();
     let path = folder.at("journal");
@@ -545,7 +545,7 @@ fn a_full_journal_restores() {
     println!("16,777,216 records in {:.1?}", begun.elapsed());
     assert_eq!(
         out,
-        "restore 0 0\nstatus 0 7 16777215 0 0 0 16777216\nback 8\noffer 9 0 0\n"
+        "restore 0 0\nstatus 0 7 16777215 0 0 0 16777216\nback 8\noffer 9 0 0 0\n"
     );
     assert_eq!(fs::metadata(&path).unwrap().len(), 1 << 30);
 }

@@ -23,6 +23,7 @@ pub fn assert_all(done: (u64, Numbers), listed: usize) {
         number: 0,
         cycle: 0,
         gap: 0,
+        loss: 0,
     };
     assert_eq!(done, (listed as u64, none));
 }

@@ -8,6 +8,7 @@ use rossinhiu::checker;
 use rossinhiu::ffi::{Command, Numbers, Session};
 use rossinhiu_model::model::NAMES;
 use rossinhiu_speed::{before, twin};
+use std::cell::RefCell;
 
 const BEFORE: &str = "before";
 const CHANGE: Table = Table {
@@ -32,10 +33,12 @@ fn asked(kind: u64) -> Vec<Command> {
 
 fn compare_questions(title: &str, trace: &[Command], asked: &[Command]) {
     let (state, design) = (played_out(trace), design_with(trace));
+    let old = before::Session::of(&state);
     for c in asked {
         let told = checker::earliest(&state, c.kind, c.rank, c.bank);
-        assert_eq!(told, before::earliest(&state, c.kind, c.rank, c.bank));
         assert_eq!(told, twin::earliest(&state, c.kind, c.rank, c.bank));
+        let less = Numbers { loss: 0, ..told };
+        assert_eq!(less, before::earliest(&old, c.kind, c.rank, c.bank));
     }
     let run = |ask: Ask| questions(&state, asked, ask);
     CHANGE.compare(
@@ -43,7 +46,7 @@ fn compare_questions(title: &str, trace: &[Command], asked: &[Command]) {
         201,
         vec![
             contender(LIBRARY, || run(checker::earliest)),
-            contender(BEFORE, || run(before::earliest)),
+            contender(BEFORE, || questions(&old, asked, before::earliest)),
             contender(TWIN, || run(twin::earliest)),
             contender(SOURCE, || source_questions(&design, asked)),
         ],
@@ -52,13 +55,14 @@ fn compare_questions(title: &str, trace: &[Command], asked: &[Command]) {
 
 fn compare_offers(trace: &[Command]) {
     let (start, room) = (opened(), room_behind(&opened()));
+    let old = before::Session::of(&start);
     let run = |offer: Offer| offers(&start, &room, trace, offer, 0);
     CHANGE.compare(
         "accepted offer",
         201,
         vec![
             contender(LIBRARY, || run(checker::offer)),
-            contender(BEFORE, || run(before::offer)),
+            contender(BEFORE, || offers(&old, &room, trace, before::offer, 0)),
             contender(TWIN, || run(twin::offer)),
             contender(SOURCE, || source_offers(&[], trace)),
         ],
@@ -78,21 +82,25 @@ fn compare_restores() {
     );
 }
 
+type Burst<S> = fn(&mut S, &mut [u8], &[Command]) -> (u64, Numbers);
+
+/// A round of one burst, for each command.
+fn bursts<S: Copy>(start: &S, room: &RefCell<Vec<u8>>, trace: &[Command], burst: Burst<S>) -> f64 {
+    from_start(start, &mut room.borrow_mut(), trace.len(), |state, room| {
+        assert_all(burst(state, room, trace), trace.len());
+    })
+}
+
 fn compare_bursts(trace: &[Command]) {
-    type Burst = fn(&mut Session, &mut [u8], &[Command]) -> (u64, Numbers);
     let (start, room) = (opened(), room_behind(&opened()));
-    let run = |burst: Burst| {
-        let room = &mut room.borrow_mut();
-        from_start(&start, room, trace.len(), |state, room| {
-            assert_all(burst(state, room, trace), trace.len());
-        })
-    };
+    let old = before::Session::of(&start);
+    let run = |burst: Burst<Session>| bursts(&start, &room, trace, burst);
     CHANGE.compare(
         "a command of a burst of 4,096, as structs",
         201,
         vec![
             contender(LIBRARY, || run(checker::offer_all)),
-            contender(BEFORE, || run(before::offer_all)),
+            contender(BEFORE, || bursts(&old, &room, trace, before::offer_all)),
             contender(TWIN, || run(twin::offer_all)),
             contender(SOURCE, || source_offers(&[], trace)),
         ],

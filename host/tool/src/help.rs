@@ -36,9 +36,9 @@ At the end a summary goes to standard error: lines, accepted, refused by number,
 
 Requests, and what is printed:
   open RATIO RANKS MODE CLIENT G1 .. G20   open N
-  offer KIND RANK BANK CYCLE               offer N CYCLE GAP
-  burst KIND RANK BANK CYCLE ..            burst COUNT N CYCLE GAP
-  ask KIND RANK BANK                       ask N CYCLE GAP
+  offer KIND RANK BANK CYCLE               offer N CYCLE GAP LOSS
+  burst KIND RANK BANK CYCLE ..            burst COUNT N CYCLE GAP LOSS
+  ask KIND RANK BANK                       ask N CYCLE GAP LOSS
   back                                     back N
   status                                   status N CLIENT OPENING SURVIVORS DEPTH LAST RECORDS
   stretch                                  stretch LENGTH HEX
@@ -49,6 +49,7 @@ Requests, and what is printed:
   poke AT BYTE                             poke AT BYTE     (in memory only)
 RATIO is 1, 2 or 4; RANKS 1 or 2; MODE 0 (16-bank) or 2 (four groups of four); G1 to G20 are the gaps in DRAM cycles.
 KIND is ACT RD WR PREPB PREAB REFAB REFPB, or 1 to 7 in this order. CYCLE is in controller cycles.
+LOSS is in DRAM cycles: what GAP loses to rounding, 0 to RATIO - 1, and 0 where GAP is 0.
 A burst is any number of offers in one line: COUNT were accepted, then comes the first refusal, or zeros. What comes behind it is not
 looked at.
 TCK and T1 to T20 are a data sheet's times in picoseconds, T1 that of gap 1; what is told are the gaps of an opening.

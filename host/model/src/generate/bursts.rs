@@ -30,19 +30,20 @@ impl Player {
         if self.mood == Mood::FourActivates && self.rng.chance(40) {
             return self.window_burst();
         }
-        match self.rng.below(29) {
-            0..=7 => self.refused_burst(),
-            8 | 9 => self.empty_burst(),
-            10 => self.burst_of_one(),
-            11..=13 => self.long_burst(),
-            14 => self.burst_to_the_bottom(),
-            15..=17 => self.burst_without_room(),
-            18 => self.burst_behind_a_back(),
-            19 | 20 => self.burst_and_restore(),
-            21 => self.full_line(),
-            22 => self.fullest_burst(),
-            23 => self.window_burst(),
-            24..=26 => self.refresh_burst(),
+        match self.rng.below(35) {
+            0..=9 => self.refused_burst(),
+            10 | 11 => self.empty_burst(),
+            12 => self.burst_of_one(),
+            13..=15 => self.long_burst(),
+            16 => self.burst_to_the_bottom(),
+            17..=19 => self.burst_without_room(),
+            20 => self.burst_behind_a_back(),
+            21 | 22 => self.burst_and_restore(),
+            23 => self.full_line(),
+            24 | 25 => self.fullest_burst(),
+            26 => self.window_burst(),
+            27..=29 => self.refresh_burst(),
+            30..=32 => self.burst_at_a_loss(),
             _ => self.malformed_burst(),
         }
     }
@@ -68,7 +69,7 @@ impl Player {
     }
 
     /// Sends it, and mostly looks at what it left.
-    fn burst(&mut self, list: &[Command]) {
+    pub(super) fn burst(&mut self, list: &[Command]) {
         let line = burst_line(&mut self.rng, list);
         // Odd blanks would make a long line too long.
         match line.len() < 1_000 {
@@ -222,9 +223,7 @@ impl Player {
             true => burst_line(&mut self.rng, &list),
             false => fullest_line(&mut self.rng),
         };
-        let length = self
-            .rng
-            .pick(&[LONGEST_LINE, LONGEST_LINE, LONGEST_LINE + 1]);
+        let length = self.rng.pick(&[LONGEST_LINE, LONGEST_LINE + 1]);
         let returned = self.rng.chance(30);
         // The return counts towards the length.
         let line = padded(&line, length - usize::from(returned));
@@ -318,7 +317,7 @@ mod tests {
     }
 
     /// The numbers of an answer to a burst.
-    fn told(line: &Line) -> Option<[u64; 4]> {
+    fn told(line: &Line) -> Option<[u64; 5]> {
         let text = String::from_utf8_lossy(line.answer.as_deref()?).into_owned();
         let numbers = text.strip_prefix("burst ")?.split(' ');
         let numbers: Vec<u64> = numbers.map(|n| n.parse().unwrap()).collect();
@@ -336,8 +335,8 @@ mod tests {
     }
 
     /// What a list came to that was answered, the state before it given.
-    fn of_a_list(state: &State, list: &[Command], told: [u64; 4]) -> Vec<String> {
-        let [count, number, _, gap] = told;
+    fn of_a_list(state: &State, list: &[Command], told: [u64; 5]) -> Vec<String> {
+        let [count, number, _, gap, _] = told;
         let (accepted, rest) = list.split_at(count as usize);
         let is_open = state.session().is_some();
         let mut seen = vec![format!("{} in a session: {is_open}", list.len().min(2))];

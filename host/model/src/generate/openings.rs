@@ -411,7 +411,7 @@ mod tests {
         let judged = if read.call == "burst" { state } else { before };
         let number = number.copied().unwrap_or_default();
         if read.call == "ask" || number == 7 {
-            let [.., cycle, gap] = read.told[..] else {
+            let [.., cycle, gap, _] = read.told[..] else {
                 return seen;
             };
             seen.extend(askers(judged, &asked, (cycle, gap)));

@@ -6,7 +6,7 @@ use Rattle.statements.specs.Exact.{takeBackIn}
 use Rattle.requests.proofs.PlaceLaws.{front-size}
 use Rattle.console.specs.Say.{brief}
 use Rattle.console.specs.Respond.{outcomeIn}
-use Rattle.console.proofs.RespondLaws.{called-is}
+use Rattle.console.proofs.RespondLaws.{called-is, few-told}
 use borrow.Author.Needs.{needs}
 use Rattle.console.proofs.respond.to_back.Statement.{statement}
 use Rattle.console.proofs.respond.to_back.Tie as tie
@@ -17,7 +17,7 @@ returns c ns =
     let o = c .before .before .before .before in
     let a = o .before .before .before .args in
     let j = a .journal .now in
-    called-is (a .row) 1 _ 0 0 (c .numbered .result) (c .numbered .ensures) brief (takeBackIn (roomOf (length (take (a .lent) j))) (a .session)) (a .session) _ (a .lent) j _ _ (o .take-back .ensures .exact) refl
+    called-is (a .row) (c .numbered .result) brief (takeBackIn (roomOf (length (take (a .lent) j))) (a .session)) (a .session) _ (a .lent) j _ _ (o .take-back .ensures .exact) (few-told (a .row) 1 _ 0 (c .numbered .result) (c .numbered .ensures))
 
 pub to-back-spec : {M : Type 1} → statement M
 to-back-spec =

@@ -30,7 +30,7 @@ returns-3 c =
     let n = i .before .before in
     let a = n .before .before .before .args in
     rw (← n .before .nth .ensures, ← n .nth2 .ensures, le-leb (n .before .nth .result + n .nth2 .result) (length (a .journal .now)) (omega (arith, i .if2 .left, i .before .if1 .left)))
-    (prints-is (a .asking .row) 0 0 0 0 (c .before .numbered .result) (c .before .numbered .ensures) (c .with-bytes .result) (a .session) (a .lent) _ _ (a .journal .now) (c .with-bytes .ensures) (omega (arith, i .if2 .left, i .before .if1 .left)))
+    (prints-is (a .asking .row) 0 0 0 (c .before .numbered .result) (c .before .numbered .ensures) (c .with-bytes .result) (a .session) (a .lent) _ _ (a .journal .now) (c .with-bytes .ensures) (omega (arith, i .if2 .left, i .before .if1 .left)))
 
 pub to-bytes-spec : {M : Type 1} → statement M
 to-bytes-spec =

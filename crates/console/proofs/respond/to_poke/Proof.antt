@@ -20,7 +20,7 @@ returns-2 c =
     let n = c .before .before in
     let a = n .before .before .before .args in
     rw (← n .before .nth .ensures, ← n .nth2 .ensures, lt-ltb (n .before .nth .result) (length (a .journal .now)) (c .before .if1 .left))
-    (says-is (a .asking .row) 2 _ _ 0 (c .numbered .result) (c .numbered .ensures) (a .session) (a .lent) _)
+    (says-is (a .asking .row) 2 _ _ (c .numbered .result) (c .numbered .ensures) (a .session) (a .lent) _)
 
 pub to-poke-spec : {M : Type 1} → statement M
 to-poke-spec =

@@ -24,7 +24,7 @@ returns c ns =
     let part = c .before .before .stretch in
     let size : length (part .result .now) ≡ p .size = stretch-size (a .session) (a .lent) j p (part .result .now) (place .ensures .0 .exact) (place .ensures .1) (s .pre) (ap (λ (x : Seen). x .bytes) (part .ensures .exact)) in
     subst (λ (q : Part). Responds (prints (a .row) (q .size ∷ []) (q .start) (partOf q j) (a .session) (a .lent) j) (responseOf (a .session) (a .lent) (c .with-bytes .result)) j) (place .ensures .0 .exact)
-    (prints-is (a .row) 1 (p .size) 0 0 (c .before .numbered .result) (rw size at (c .before .numbered .ensures)) (c .with-bytes .result) (a .session) (a .lent) (p .start) (p .size) j (rw size at (c .with-bytes .ensures)) (omega (arith, place .ensures .1, s .pre)))
+    (prints-is (a .row) 1 (p .size) 0 (c .before .numbered .result) (rw size at (c .before .numbered .ensures)) (c .with-bytes .result) (a .session) (a .lent) (p .start) (p .size) j (rw size at (c .with-bytes .ensures)) (omega (arith, place .ensures .1, s .pre)))
 
 pub to-stretch-spec : {M : Type 1} → statement M
 to-stretch-spec =

@@ -12,7 +12,7 @@ use borrow.Author.Tests.{eqb-true}
 use lib.ListN.{length, getD, drop, set, drop-of-length-le, length-map}
 use lib.Seq.{drop-cons}
 use lib.WfN.{Nat·lt-wfRel}
-use mir.Syntax.{w64}
+use mir.Syntax.{w16, w64}
 use mir.Val.{Val, vint}
 use denote.Array.{Array, arrayVal, array-tells}
 use denote.Laws.{Is}
@@ -22,6 +22,7 @@ use Rattle.timing.proofs.rules.Command as C
 use Rattle.timing.proofs.rules.Command.Laws as C′
 use Rattle.timing.proofs.rules.Opening as Q
 use Rattle.timing.proofs.rules.Opening.Laws as Q′
+use Rattle.timing.proofs.clocks.DramCycles.Laws as D′
 use Rattle.timing.proofs.clocks.ControllerCycles as Y
 use Rattle.timing.proofs.clocks.ControllerCycles.Laws as Y′
 use Rattle.timing.specs.declared.clocks.ControllerCycles.{ControllerCycles}
@@ -125,13 +126,13 @@ module _ (s : Session) (p : IsSession s) where
   rounded-is = lowered-is (Array Y.the-row 20) roundedVal (array-tells Y.the-row (λ d. Y′.lowered d ∷ []) (Y′.lowers .val-is) 20) (s .terms .rounded) _ (alone-is Y.the-field (Y.the-row .own) (λ x vs i. i) 20 (s .terms .rounded) _ (p .1 .1 .1 .1 .1 .0 .1 .1 .0))
 
   pub opening-is : Is Q.the-row (s .terms .opening) (Q′.lowered (s .terms .opening) ∷ [])
-  opening-is = lowered-is Q.the-row Q′.lowered (Q′.lowers .val-is) (s .terms .opening) _ (p .1 .1 .1 .1 .1 .0 .1 .1 .1 .0)
+  opening-is = lowered-is Q.the-row Q′.lowered (Q′.lowers .val-is) (s .terms .opening) _ (p .1 .1 .1 .1 .1 .0 .1 .1 .1 .1 .0)
 
   pub records-fit : s .progress .records < 2 ^ 64
   records-fit = p .1 .1 .1 .1 .0 .1 .1 .1 .1 .1 .1 .1 .0 .1
 
   pub number-fits : s .terms .number < 2 ^ 32
-  number-fits = p .1 .1 .1 .1 .1 .0 .1 .1 .1 .1 .0 .1
+  number-fits = p .1 .1 .1 .1 .1 .0 .1 .1 .1 .1 .1 .0 .1
 
   pub stored-is : (t : Taken) → IsTaken t → IsSession (storedIn s (storedOf t))
   stored-is t k =
@@ -143,10 +144,10 @@ module _ (s : Session) (p : IsSession s) where
   burst-is n a l r = ((S′.lowered s ∷ [], (vint w64 n ∷ [], (R′.lowered a ∷ [], tt))), (refl, (p, ((refl, l), (r, tt)))))
 
 abbrev pub none-refused : Answer
-none-refused = record { number = 0; cycle = record { 0 = 0 }; gap = 0 }
+none-refused = record { number = 0; cycle = record { 0 = 0 }; gap = 0; loss = record { 0 = 0 } }
 
 pub none-is : IsAnswer none-refused
-none-is = ((vint w64 0 ∷ [], (Y′.lowered (record { 0 = 0 }) ∷ [], (vint w64 0 ∷ [], tt))), (refl, ((refl, lit< tt), (((vint w64 0 ∷ [], tt), (refl, ((refl, lit< tt), tt))), ((refl, lit< tt), tt)))))
+none-is = ((vint w64 0 ∷ [], (Y′.lowered (record { 0 = 0 }) ∷ [], (vint w64 0 ∷ [], (D′.lowered (record { 0 = 0 }) ∷ [], tt)))), (refl, ((refl, lit< tt), (((vint w64 0 ∷ [], tt), (refl, ((refl, lit< tt), tt))), ((refl, lit< tt), (((vint w16 0 ∷ [], tt), (refl, ((refl, lit< tt), tt))), tt))))))
 
 -- ---- the test of an answer's number
 module _ (t : Taken) where
