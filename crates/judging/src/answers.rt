@@ -4,9 +4,8 @@ ghost use mathlib.Core.Path.{_≡_};
 ghost use Rattle.timing.specs.Earliest.{lossOf};
 ghost use Rattle.history.specs.Answers.{plain, named};
 ghost use Rattle.scan.specs.Scan.{askIn};
-ghost use Rattle.judging.specs.Judged.{replyIn, settingsBy};
+ghost use Rattle.judging.specs.Judged.{replyIn};
 use scan::earliest::Earliest;
-use session::state::Terms;
 use timing::clocks::ControllerCycles;
 use timing::clocks::DramCycles;
 use timing::rules::Opening;
@@ -71,12 +70,11 @@ impl Answer {
         }
     }
 
-    // A number with the earliest cycle, the gap that asks for it, and what that gap loses.
-    pub fn told(number: u64, terms: Terms, early: Earliest) -> Answer
-        ensures { λ r. ⌜ replyIn r ≡ named number (settingsBy terms) (askIn early) ⌝ }
+    // A number with the earliest cycle, the gap that asks for it, and what that gap loses. The settings come as two: whole terms would be
+    // copied for every command, told or not.
+    pub fn told(number: u64, opening: Opening, gaps: [DramCycles; 20], early: Earliest) -> Answer
+        ensures { λ r. ⌜ replyIn r ≡ named number (record { opening = opening; gaps = gaps }) (askIn early) ⌝ }
     {
-        let opening = terms.opening;
-        let gaps = terms.gaps;
         let cycle = early.cycle;
         Answer {
             number,

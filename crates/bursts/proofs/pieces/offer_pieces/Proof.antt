@@ -5,7 +5,7 @@ use Prim.Native.Nat.{_+_, _-_}
 use native.Mathlib.Omega.{arith}
 use lib.ListN.{length}
 use Rattle.history.specs.Records.{command}
-use Rattle.history.specs.Answers.{roomOf}
+use Rattle.history.specs.Answers.{roomOf, refused}
 use Rattle.journal.specs.Bytes.{offerFrom}
 use Rattle.journal.specs.Restore.{offersFrom}
 use Rattle.journal.proofs.PieceLaws.{piece, piece-is, piece-size}
@@ -60,19 +60,22 @@ read-offer-requires c κs = let p = c .before .before .before .before .before .b
 judge-one-requires : tie.Need-judge-one-requires Inv-loop μ-loop
 judge-one-requires c κs = record { table-is = c .before .before .before .before .before .before .before .before .loop .inv .4; steps-are = c .before .before .before .before .before .before .before .before .loop .inv .3 }
 
+complete-requires : tie.Need-complete-requires Inv-loop μ-loop
+complete-requires c κs = search needs
+
 same-length : tie.Need-same-length Inv-loop μ-loop
-same-length c = c .before .before .before .before .before .before .before .before .before .before .before .before .loop .inv .1
+same-length c = c .before .before .before .before .before .before .before .before .before .before .before .before .before .before .before .loop .inv .1
 
 returns : tie.Need-returns Inv-loop μ-loop
 returns c =
-    let a = c .before .before .before .before .before .before .before .before .before .before .before .before .before .before .before .before .before .before .before .before .before .before .args in
-    let l = c .before .before .before .before .before .before .before .before .before .before .before .before .loop in
+    let a = c .before .before .before .before .before .before .before .before .before .before .before .before .before .before .before .before .before .before .before .before .before .before .before .before .before .args in
+    let l = c .before .before .before .before .before .before .before .before .before .before .before .before .before .before .before .loop in
     let p = a .pieces .now in
-    let is : c .before .before .before .before .before .before .before .before .before .read-offer .result ≡ offerFrom (piece (l .i) p) = rw (piece-is (l .i) p) at (c .before .before .before .before .before .before .before .before .before .read-offer .ensures) in
-    let most = c .before .before .before .before .before .before .before .before .before .before .before .before .before .before .before .before .before .before .before .room-of .ensures ∙ ap roomOf (sym (l .inv .1)) in
-    let judged = rw (l .inv .2, most) at (c .before .before .before .judge-one .ensures (l .session .entries)) in
+    let is : c .before .before .before .before .before .before .before .before .before .before .before .before .read-offer .result ≡ offerFrom (piece (l .i) p) = rw (piece-is (l .i) p) at (c .before .before .before .before .before .before .before .before .before .before .before .before .read-offer .ensures) in
+    let most = c .before .before .before .before .before .before .before .before .before .before .before .before .before .before .before .before .before .before .before .before .before .before .room-of .ensures ∙ ap roomOf (sym (l .inv .1)) in
+    let judged = rw (l .inv .2, most) at (c .before .before .before .before .before .before .judge-one .ensures (l .session .entries)) in
     let here = ap (verdictIn (over (l .session) (l .journal))) (sym is) in
-    bursts (bursting-refused (a .t1) (a .journal .now) (offersFrom p) (l .session) (l .journal) (l .i) (offerFrom (piece (l .i) p)) (leftFrom p (l .i + 1)) (rw (left-one p (l .i) (c .before .before .before .before .before .before .before .before .before .before .before .loop-test .taken)) at (l .inv .0)) _ (here ∙ judged .refuses (c .if1 .taken)))
+    bursts (bursting-refused (a .t1) (a .journal .now) (offersFrom p) (l .session) (l .journal) (l .i) (offerFrom (piece (l .i) p)) (leftFrom p (l .i + 1)) (rw (left-one p (l .i) (c .before .before .before .before .before .before .before .before .before .before .before .before .before .before .loop-test .taken)) at (l .inv .0)) _ (here ∙ judged .refuses (c .before .before .before .if1 .taken) ∙ ap refused (sym (c .complete .ensures))))
 
 write-command-requires : tie.Need-write-command-requires Inv-loop μ-loop
 write-command-requires c κs =
@@ -156,6 +159,7 @@ offer-pieces-spec =
     part-read-offer-end
     read-offer-requires
     judge-one-requires
+    complete-requires
     same-length
     returns
     write-command-requires
