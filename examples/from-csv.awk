@@ -9,7 +9,8 @@
 #     ACT RD WR          the same
 #     PRE PREA           PREPB PREAB
 #     REF REFA REFB      REFAB REFAB REFPB
-#     RDA WRA            RD WR; the precharge in them is not checked, and a comment says so
+#     RDA WRA            RD WR; the precharge in them is not checked, and a comment says so. The bank counts as open until a PRE or
+#                        PREA closes it: an ACT of it before that is refused with 12
 #     END NOP            nothing
 #     any other          a comment that says what was left out (power-down, self-refresh)
 
@@ -31,7 +32,7 @@ $0 == "" || name == "END" || name == "NOP" { next }
 # A heading, or a command that the bench does not know.
 $1 !~ /^[0-9]+$/ || !(name in kind) { print "# left out: " $0; next }
 
-name == "RDA" || name == "WRA" { print "# " name ": its precharge is not checked" }
+name == "RDA" || name == "WRA" { print "# " name ": its precharge is not checked; bank " $3 " counts as open" }
 
 kind[name] == "PREAB" || kind[name] == "REFAB" { $3 = 0 }
 

@@ -65,6 +65,7 @@ extern "C" {
 #define ROSSINHIU_NO_ROOM 9         /* no room for a record, or a stored journal too long */
 #define ROSSINHIU_BAD_SETTINGS 10   /* ratio not 1, 2, 4; ranks not 1, 2; mode not 0, 2 */
 #define ROSSINHIU_BAD_RECORD 11     /* bad record in a restore */
+#define ROSSINHIU_WRONG_STATE 12    /* the bank can't do it: open or closed, as it is now */
 #define ROSSINHIU_BAD_TCK 13        /* tCK not 1 to 1,000,000 ps */
 #define ROSSINHIU_BAD_TIME 14       /* a time above 4,294,967,295 ps, or a gap above 65,535 */
 
@@ -147,7 +148,8 @@ struct rossinhiu_sheet rossinhiu_gaps(uint64_t tck, struct rossinhiu_times times
  * Opens a session for a client and writes its record. `ratio` is 1, 2 or 4 DRAM cycles to a controller cycle, `ranks` 1 or 2, `mode`
  * 0 (16 banks) or 2 (four groups of four). A session that was open ends; a refused opening leaves it in force. Mode 1, eight groups of
  * two, stands in old journals alone: a session restored with it goes on, and none is opened. The session is of the newest edition of
- * the rules, 1, which byte 48 of its record says; one that is restored goes on under the edition that its own record names.
+ * the rules, 2, which byte 48 of its record says; one that is restored goes on under the edition that its own record names. All banks
+ * are closed behind an opening.
  * number: 10, 9, or 0.
  */
 struct rossinhiu_opened {
@@ -160,7 +162,9 @@ struct rossinhiu_opened rossinhiu_open(struct rossinhiu_session session, uint8_t
 
 /*
  * Offers a command at a controller cycle, and writes its record if it is accepted. `bank` is 0 with PREAB and REFAB.
- * number: the first that holds of 1, 2, 3, 4, 5, 6, 7, 9; else 0. With 0, `cycle` is the cycle offered, `gap` and `loss` are 0. With
+ * From edition 2 on ACT and REFPB need a closed bank, RD and WR an open one, REFAB all of its rank closed: 12 else. ACT opens its bank,
+ * PREPB closes its own, PREAB all of the rank; precharging a closed bank is allowed.
+ * number: the first that holds of 1, 2, 3, 4, 5, 6, 12, 7, 9, in this order; else 0. With 0, `cycle` is the cycle offered, `gap` and `loss` are 0. With
  * 7, `cycle` is the earliest legal cycle, `gap` the number of the gap that asks for it, and `loss` the DRAM cycles that this gap loses
  * to rounding: rounded gap times ratio, less the gap; 0 to ratio - 1. With any other number all three are 0.
  */
@@ -216,7 +220,8 @@ struct rossinhiu_burst rossinhiu_offer_pieces(struct rossinhiu_session session, 
                                               size_t pieces_size) ROSSINHIU_AS("rossinhiu_offer_pieces");
 
 /*
- * Asks for the earliest cycle at which a command may stand. Nothing is written.
+ * Asks for the earliest cycle at which a command may stand, by the gaps alone: whether its bank is open is not looked at. Nothing is
+ * written.
  * number: the first that holds of 1, 2, 3, 4; else 0. With 0, `cycle` is that cycle, and `gap` the gap that asks for it, or 0 where no
  * gap asks for more than the cycle after the last surviving command; `loss` is what that gap loses to rounding, as with a refused
  * offer, and 0 with gap 0. The cycle may be above ROSSINHIU_LAST_CYCLE; it can't be offered then.

@@ -20,8 +20,8 @@ const FUNCTIONS: [&str; 13] = [
     "console",
 ];
 
-/// The layouts whose structs are those of src/before.rs, but for bytes between fields.
-const LAYOUTS: [u32; 2] = [2, 3];
+/// The layouts whose structs are those of this one, but for bytes between fields.
+const LAYOUTS: [u32; 1] = [4];
 
 /// Which of them an archive has, by its names.
 fn layout_of(archive: &str) -> u32 {

@@ -66,6 +66,7 @@ fn print_numbers() {
    9 no room for a record
   10 ratio not 1, 2, 4; ranks not 1, 2; mode not 0, 2
   11 bad record in a restore: AT is its number
+  12 wrong bank state: ACT REFPB need the bank closed, RD WR open, REFAB all of the rank closed
   13 TCK not 1 to 1000000
   14 a time above 4294967295, or a gap above 65535: GAP is the lowest such
 

@@ -7,6 +7,7 @@ use native.Mathlib.Omega.{arith}
 use lib.Dec.{lit≤}
 use lib.ListN.{length, getD, take}
 use Rattle.timing.specs.Rules.{rules, covers, matching}
+use Rattle.timing.specs.Banks.{isOpen, someBank}
 use Rattle.timing.specs.Earliest.{reach, floor, pairAsks, acts, fourAsks, asks, latest, earliest}
 use Rattle.history.specs.Records.{opening, History, standing}
 use Rattle.history.specs.Answers.{roomOf, nextOf, Reply, Status, firstOf, fits, follows, openOn, offerOn, earliestOn, takeBackOn, statusOn, recordSize}
@@ -20,7 +21,7 @@ use Rattle.statements.specs.Statements.{Restores}
 use Rattle.statements.proofs.KeepsLaws.{fresh-rep}
 use Rattle.statements.specs.Calls.{Outcome, Move, asks-status, Heard, replied, stated, handed, Does}
 use Rattle.demands.specs.Runs.{Plays, ends, plays}
-use Rattle.demands.specs.Named.{blank, client7, client9, shortMoves, shortAnswers, windowMoves, windowAnswers, twoOpenings, old, oldJournal, oldLent, oldMoves, oldAnswers, mixedMoves, mixedAnswers, askedAgain, answersAgain}
+use Rattle.demands.specs.Named.{blank, client7, client9, shortMoves, shortAnswers, windowMoves, windowAnswers, twoOpenings, old, oldJournal, oldLent, oldMoves, oldAnswers, mixedMoves, mixedAnswers, askedAgain, answersAgain, bankMoves, bankAnswers}
 use Rattle.demands.proofs.MoveLaws.{answerOn, verdictOn, does-on}
 use Rattle.demands.proofs.RanLaws.{Holding, does-holds, cut-holds, cut-number}
 use Rattle.demands.proofs.WrittenLaws.{older}
@@ -59,7 +60,7 @@ from-blank p = played 10 [] (record { rep = fresh-rep; room-is = refl; begins = 
 -- A checker that refuses everything, gives one earliest cycle always, is right for the first command only, or makes up a survivor count or a
 -- depth gives other answers than these
 pub short-run : {last : Session} {after : List ℕ} {xs : List Heard} → Plays freshState blank shortMoves xs last after → xs ≡ shortAnswers
-unfolding rules covers matching reach floor pairAsks acts fourAsks asks latest earliest standing firstOf openOn offerOn earliestOn takeBackOn statusOn answersOn shortMoves shortAnswers le gapBytes bytesOf
+unfolding isOpen rules covers matching reach floor pairAsks acts fourAsks asks latest earliest standing firstOf openOn offerOn earliestOn takeBackOn statusOn answersOn shortMoves shortAnswers le gapBytes bytesOf
 short-run p = from-blank p ∙ computed
   where
     computed : answersOn 10 [] blank shortMoves ≡ shortAnswers
@@ -67,10 +68,18 @@ short-run p = from-blank p ∙ computed
 
 -- one that doesn't bring back the fourth activate, too
 pub window-run : {last : Session} {after : List ℕ} {xs : List Heard} → Plays freshState blank windowMoves xs last after → xs ≡ windowAnswers
-unfolding rules covers matching reach floor pairAsks acts fourAsks asks latest earliest standing firstOf openOn offerOn earliestOn takeBackOn statusOn answersOn windowMoves windowAnswers le gapBytes bytesOf
+unfolding isOpen rules covers matching reach floor pairAsks acts fourAsks asks latest earliest standing firstOf openOn offerOn earliestOn takeBackOn statusOn answersOn windowMoves windowAnswers le gapBytes bytesOf
 window-run p = from-blank p ∙ computed
   where
     computed : answersOn 10 [] blank windowMoves ≡ windowAnswers
+    computed = refl
+
+-- one that doesn't look at the banks, closes one of them only, or doesn't bring back what a PREAB closed
+pub bank-run : {last : Session} {after : List ℕ} {xs : List Heard} → Plays freshState blank bankMoves xs last after → xs ≡ bankAnswers
+unfolding isOpen someBank rules covers matching reach floor pairAsks acts fourAsks asks latest earliest standing firstOf openOn offerOn earliestOn takeBackOn statusOn answersOn bankMoves bankAnswers le gapBytes bytesOf
+bank-run p = from-blank p ∙ computed
+  where
+    computed : answersOn 10 [] blank bankMoves ≡ bankAnswers
     computed = refl
 
 -- one that does nothing leaves byte 0 as it is
@@ -114,7 +123,7 @@ old-holds {next = next} told = record { rep = subst (λ (r : Restored). Rep next
 
 pub old-run : {number at : ℕ} {next last : Session} {after : List ℕ} {xs : List Heard} → Restores oldJournal number at next → Plays next oldLent oldMoves xs last after
     → (number ≡ 0) × (xs ≡ oldAnswers)
-unfolding rules covers matching reach floor pairAsks acts fourAsks asks latest earliest standing firstOf openOn offerOn earliestOn takeBackOn statusOn answersOn oldMoves oldAnswers oldJournal le gapBytes bytesOf
+unfolding isOpen rules covers matching reach floor pairAsks acts fourAsks asks latest earliest standing firstOf openOn offerOn earliestOn takeBackOn statusOn answersOn oldMoves oldAnswers oldJournal le gapBytes bytesOf
 old-run told p = (told .answer ∙ ap restoreNumber restored-old, played 11 (opening old ∷ []) (old-holds told) p ∙ computed)
   where
     computed : answersOn 11 (opening old ∷ []) oldLent oldMoves ≡ oldAnswers
@@ -127,7 +136,7 @@ mixedHistory = leftOn 11 (opening old ∷ []) mixedMoves
 pub mixed-run : {number at number′ at′ : ℕ} {s last next final : Session} {after later : List ℕ} {xs ys : List Heard} (left : ℕ) → (left ≡ 2) ⊎ (left ≡ 4)
     → Restores oldJournal number at s → Plays s oldLent mixedMoves xs last after → Restores (take (recordSize * left) after) number′ at′ next → Plays next after askedAgain ys final later
     → (xs ≡ mixedAnswers) × (number′ ≡ 0) × (ys ≡ answersAgain left)
-unfolding rules covers matching reach floor pairAsks acts fourAsks asks latest earliest standing firstOf openOn offerOn earliestOn takeBackOn statusOn answersOn leftOn mixedMoves mixedAnswers askedAgain answersAgain oldJournal le gapBytes bytesOf mixedHistory
+unfolding isOpen rules covers matching reach floor pairAsks acts fourAsks asks latest earliest standing firstOf openOn offerOn earliestOn takeBackOn statusOn answersOn leftOn mixedMoves mixedAnswers askedAgain answersAgain oldJournal le gapBytes bytesOf mixedHistory
 mixed-run {number′ = number′} {at′ = at′} {last = last} {next = next} {after = after} {xs = xs} {ys = ys} left which told p again q =
     ⊎-elim (λ e. by left e (lit≤ tt) again (rw e refl)) (λ e. by left e (lit≤ tt) again (rw e refl)) which
   where

@@ -1,7 +1,7 @@
 -- An offer is accepted exactly where no line holds, and too early exactly where a gap asks for more than its cycle.
 use mathlib.Core.Path.{_≡_, refl, sym, _∙_, ap, subst}
 use mathlib.Core.Logic.{_↔_}
-use mathlib.Core.Bool.{Bool, true, false, cond}
+use mathlib.Core.Bool.{Bool, true, false, cond, true≢false}
 use mathlib.Core.List.{List, [], _∷_, _++_}
 use Prim.Native.Nat.{ℕ, _≤_, _<_}
 use native.Mathlib.Omega.{arith}
@@ -12,6 +12,7 @@ use Rattle.timing.specs.declared.kinds.MaybeKind.{MaybeKind}
 use Rattle.timing.specs.declared.kinds.MaybeKind.the-variants.{Kind, NoKind}
 use Rattle.timing.specs.declared.rules.Command.{Command}
 use Rattle.timing.specs.Kinds.{kindOf}
+use Rattle.timing.specs.Banks.{wrongBank}
 use Rattle.timing.specs.Earliest.{Stamped, Standing, Ask, LaterThanLast, Legal, cycleAfter, floor, earliest, Settings}
 use Rattle.timing.proofs.Legal.{legal-from, named-gap}
 use Rattle.history.specs.Records.{Record, opening, command, takeBack, History, Current, closed, session, standing}
@@ -74,60 +75,76 @@ more-asked st c t w =
 
 module _ (room count : ℕ) (now : Current) (kind : ℕ) (c : Command) (t : ℕ) (st : Standing) (ready : Ready now kind c t st) where
   -- what is left of the lines
-  abbrev number : Bool → Bool → ℕ
-  number early full = cond early 7 (cond full 9 0)
+  abbrev number : Bool → Bool → Bool → ℕ
+  number wrong early full = cond wrong 12 (cond early 7 (cond full 9 0))
 
-  left : firstOf (offerLines (st .settings .opening) (floor st) (earliest st c) c t ++ roomLines room count) ≡ number (ltb t (earliest st c .cycle)) (leb room count)
+  left : firstOf (offerLines (st .settings .opening) (floor st) (wrongBank st c) (earliest st c) c t ++ roomLines room count) ≡ number (wrongBank st c) (ltb t (earliest st c .cycle)) (leb room count)
   unfolding firstOf
   left =
-      first-on (placeLines (st .settings .opening) c ++ stampLines t) (afterLines (floor st) (earliest st c) t ++ roomLines room count)
+      first-on (placeLines (st .settings .opening) c ++ stampLines t) (afterLines (floor st) (wrongBank st c) (earliest st c) t ++ roomLines room count)
       (eqb-false 3 0 refl, (eqb-false 4 0 refl, (eqb-false 5 0 refl, tt))) (ready .placed)
-      ∙ ap (λ (z : Bool). cond z 6 (number (ltb t (earliest st c .cycle)) (leb room count))) (not-less (ltb t (floor st)) refl)
+      ∙ ap (λ (z : Bool). cond z 6 (number (wrongBank st c) (ltb t (earliest st c .cycle)) (leb room count))) (not-less (ltb t (floor st)) refl)
     where
       not-less : (z : Bool) → ltb t (floor st) ≡ z → z ≡ false
       not-less true e = absurd (omega (arith, ltb-true t (floor st) e, ready .after))
       not-less false e = refl
 
-  means : (early full : Bool) → ltb t (earliest st c .cycle) ≡ early → leb room count ≡ full → OfferMeans room count st c t (replyOf (offerReply (st .number) (st .settings) (earliest st c) c t (number early full)))
-  means true full e f =
+  means : (wrong early full : Bool) → wrongBank st c ≡ wrong → ltb t (earliest st c .cycle) ≡ early → leb room count ≡ full
+      → OfferMeans room count st c t (replyOf (offerReply (st .number) (st .settings) (earliest st c) c t (number wrong early full)))
+  means true early full w e f =
+      let not-right : wrongBank st c ≡ false → ⊥ = λ q. true≢false (sym w ∙ q) in
+      record {
+        wrong-state = ((λ p. w), (λ p. refl));
+        too-early = ((λ p. absurd (eqb-false 12 7 refl p)), (λ q. absurd (not-right (q .0))));
+        legal = λ p. absurd (eqb-false 12 7 refl p);
+        smallest = λ p u l. absurd (eqb-false 12 7 refl p);
+        gap = λ p. absurd (eqb-false 12 7 refl p);
+        loss = λ p. absurd (eqb-false 12 7 refl p);
+        accepted = ((λ p. absurd (eqb-false 12 0 refl p)), (λ q. absurd (not-right (q .1))));
+        full = ((λ p. absurd (eqb-false 12 9 refl p)), (λ q. absurd (not-right (q .1))));
+      }
+  means false true full w e f =
       let late = ltb-true t (earliest st c .cycle) e in
       let not-yet : Legal st c t → ⊥ = λ l. omega (arith, legal-from st c t .0 l, late) in
       record {
-        too-early = ((λ p. asks-more st c t (ready .after) late), (λ p. refl));
+        wrong-state = ((λ p. absurd (eqb-false 7 12 refl p)), (λ q. absurd (true≢false (sym q ∙ w))));
+        too-early = ((λ p. (w, asks-more st c t (ready .after) late)), (λ p. refl));
         legal = λ p. legal-from st c (earliest st c .cycle) .1 (omega arith);
         smallest = λ p u l. legal-from st c u .0 l;
         gap = λ p. named-gap st c;
         loss = λ p. refl;
-        accepted = ((λ p. absurd (eqb-false 7 0 refl p)), (λ w. absurd (not-yet (w .0))));
-        full = ((λ p. absurd (eqb-false 7 9 refl p)), (λ w. absurd (not-yet (w .0))));
+        accepted = ((λ p. absurd (eqb-false 7 0 refl p)), (λ q. absurd (not-yet (q .0))));
+        full = ((λ p. absurd (eqb-false 7 9 refl p)), (λ q. absurd (not-yet (q .0))));
       }
-  means false true e f =
+  means false false true w e f =
       let from : Legal st c t = legal-from st c t .1 (omega (arith, ltb-false t (earliest st c .cycle) e)) in
-      let never : AsksMore st c t → ⊥ = λ w. omega (arith, more-asked st c t w, legal-from st c t .0 from) in
+      let never : AsksMore st c t → ⊥ = λ m. omega (arith, more-asked st c t m, legal-from st c t .0 from) in
       record {
-        too-early = ((λ p. absurd (eqb-false 9 7 refl p)), (λ w. absurd (never w)));
+        wrong-state = ((λ p. absurd (eqb-false 9 12 refl p)), (λ q. absurd (true≢false (sym q ∙ w))));
+        too-early = ((λ p. absurd (eqb-false 9 7 refl p)), (λ q. absurd (never (q .1))));
         legal = λ p. absurd (eqb-false 9 7 refl p);
         smallest = λ p u l. absurd (eqb-false 9 7 refl p);
         gap = λ p. absurd (eqb-false 9 7 refl p);
         loss = λ p. absurd (eqb-false 9 7 refl p);
-        accepted = ((λ p. absurd (eqb-false 9 0 refl p)), (λ w. absurd (omega (arith, w .1, leb-true room count f))));
-        full = ((λ p. (from, leb-true room count f)), (λ w. refl));
+        accepted = ((λ p. absurd (eqb-false 9 0 refl p)), (λ q. absurd (omega (arith, q .2, leb-true room count f))));
+        full = ((λ p. (from, w, leb-true room count f)), (λ q. refl));
       }
-  means false false e f =
+  means false false false w e f =
       let from : Legal st c t = legal-from st c t .1 (omega (arith, ltb-false t (earliest st c .cycle) e)) in
-      let never : AsksMore st c t → ⊥ = λ w. omega (arith, more-asked st c t w, legal-from st c t .0 from) in
+      let never : AsksMore st c t → ⊥ = λ m. omega (arith, more-asked st c t m, legal-from st c t .0 from) in
       record {
-        too-early = ((λ p. absurd (eqb-false 0 7 refl p)), (λ w. absurd (never w)));
+        wrong-state = ((λ p. absurd (eqb-false 0 12 refl p)), (λ q. absurd (true≢false (sym q ∙ w))));
+        too-early = ((λ p. absurd (eqb-false 0 7 refl p)), (λ q. absurd (never (q .1))));
         legal = λ p. absurd (eqb-false 0 7 refl p);
         smallest = λ p u l. absurd (eqb-false 0 7 refl p);
         gap = λ p. absurd (eqb-false 0 7 refl p);
         loss = λ p. absurd (eqb-false 0 7 refl p);
-        accepted = ((λ p. (from, leb-false room count f)), (λ w. refl));
-        full = ((λ p. absurd (eqb-false 0 9 refl p)), (λ w. absurd (omega (arith, w .1, leb-false room count f))));
+        accepted = ((λ p. (from, w, leb-false room count f)), (λ q. refl));
+        full = ((λ p. absurd (eqb-false 0 9 refl p)), (λ q. absurd (omega (arith, q .2, leb-false room count f))));
       }
 
   pub offer-means : OfferMeans room count st c t (replyOf (offerCase room count now (kindOf kind) (c .rank) (c .bank) t))
-  offer-means = rw (ready .stands, ready .known, left) (means (ltb t (earliest st c .cycle)) (leb room count) refl refl)
+  offer-means = rw (ready .stands, ready .known, left) (means (wrongBank st c) (ltb t (earliest st c .cycle)) (leb room count) refl refl refl)
 
   pub offer-rightly : (rank bank : ℕ) (reply : Reply) → c .rank ≡ rank → c .bank ≡ bank → reply ≡ replyOf (offerCase room count now (kindOf kind) rank bank t) → OfferMeans room count st c t reply
   offer-rightly rank bank reply r b is =
@@ -216,7 +233,7 @@ numbered room count (session st) (calls (offer kind rank bank t)) j = go (kindOf
         (kindLines k
         (λ k.
         let c : Command = record { kind = k; rank = rank; bank = bank } in
-        offerLines (st .settings .opening) (floor st) (earliest st c) c t ++ roomLines room count))
+        offerLines (st .settings .opening) (floor st) (wrongBank st c) (earliest st c) c t ++ roomLines room count))
     go NoKind = refl
     go (Kind k) = let c : Command = record { kind = k; rank = rank; bank = bank } in offered-number (st .number) (st .settings) (earliest st c) c t _
 numbered room count closed (calls take-back) j = refl

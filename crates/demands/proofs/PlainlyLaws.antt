@@ -21,7 +21,7 @@ use Rattle.session.specs.declared.state.Session.{Session}
 use Rattle.session.specs.State.{freshState}
 use Rattle.journal.specs.Restore.{Part, noPart}
 use Rattle.statements.specs.Statements.{Told, Restores}
-use Rattle.judging.specs.Judged.{isClosed, afterOf, earlyIn, settingsBy}
+use Rattle.judging.specs.Judged.{isClosed, afterOf, earlyIn, wrongIn, settingsBy}
 use Rattle.statements.specs.Exact.{earliestIn, earliestInCase, statusIn, statusInCase, stretchIn, stretchInCase, RestoredIn, tooLong, badAt, restored, restoredNumber, restoredAt, restoredState, restoreIn, openIn, offerIn, offerInCase, takeBackIn, takeBackInCase, Left}
 use Rattle.statements.specs.Calls.{Seen, partIn, PlacesStretch, HandsStretch, Outcome}
 use Rattle.demands.specs.Plainly.{ownNumbers, ownCycle, Plainly, EarliestPlainly, StatusPlainly, StretchPlainly, RestorePlainly}
@@ -92,14 +92,14 @@ unfolding offerIn ownNumbers
 offer-fair room s kind rank bank t = go (isClosed s) (kindOf kind)
   where
     own : List ℕ
-    own = 1 ∷ 2 ∷ 3 ∷ 4 ∷ 5 ∷ 6 ∷ 7 ∷ 9 ∷ 0 ∷ []
+    own = 1 ∷ 2 ∷ 3 ∷ 4 ∷ 5 ∷ 6 ∷ 12 ∷ 7 ∷ 9 ∷ 0 ∷ []
 
     go : (z : Bool) (m : MaybeKind) → Fair own t (offerInCase room s z m rank bank t)
     go true m = refuses own t 1 (List·Memᴰ·head refl) (eqb-false 1 0 refl)
     go false NoKind = refuses own t 2 (List·Memᴰ·tail (List·Memᴰ·head refl)) (eqb-false 2 0 refl)
     go false (Kind k) =
         let c : Command = record { kind = k; rank = rank; bank = bank } in
-        let ls = offerLines (s .terms .opening) (afterOf (s .progress)) (earlyIn s c) c t ++ roomLines room (s .progress .records) in
+        let ls = offerLines (s .terms .opening) (afterOf (s .progress)) (wrongIn s c) (earlyIn s c) c t ++ roomLines room (s .progress .records) in
         offered own (s .terms .number) (settingsBy (s .terms)) (earlyIn s c) c t (firstOf ls) (List·Memᴰ·tail (List·Memᴰ·tail (first-among ls)))
 
 take-back-fair : (room : ℕ) (s : Session) → Fair (ownNumbers take-back) 0 (takeBackIn room s)

@@ -145,3 +145,34 @@ again cycle gap client opened records =
 
 unfoldable pub answersAgain : ℕ → List Heard
 answersAgain left = cond (eqb left 2) (again 11 0 7 0 2) (again 31 15 9 2 4)
+
+-- what the banks can do: a read of a closed bank, an ACT of an open one, a refresh with banks open, a PREAB that closes both and is taken back
+unfoldable pub bankMoves : List Move
+bankMoves =
+    calls (open-session client9) ∷
+    calls (offer 2 0 0 10) ∷
+    calls (offer 1 0 0 0) ∷
+    calls (offer 1 0 1 8) ∷
+    calls (offer 1 0 0 9) ∷
+    calls (offer 2 0 0 18) ∷
+    calls (offer 6 0 0 90) ∷
+    calls (offer 5 0 0 60) ∷
+    calls (offer 2 0 1 100) ∷
+    calls take-back ∷
+    calls (offer 2 0 1 61) ∷
+    []
+
+unfoldable pub bankAnswers : List Heard
+bankAnswers =
+    replied (reply 0 0 0) ∷
+    replied (reply 12 0 0) ∷
+    replied (reply 0 0 0) ∷
+    replied (reply 0 8 0) ∷
+    replied (reply 12 0 0) ∷
+    replied (reply 0 18 0) ∷
+    replied (reply 12 0 0) ∷
+    replied (reply 0 60 0) ∷
+    replied (reply 12 0 0) ∷
+    replied (reply 0 0 0) ∷
+    replied (reply 0 61 0) ∷
+    []

@@ -9,6 +9,7 @@ use Rattle.timing.specs.declared.kinds.MaybeKind.{MaybeKind}
 use Rattle.timing.specs.declared.kinds.MaybeKind.the-variants.{Kind, NoKind}
 use Rattle.timing.specs.declared.rules.Command.{Command}
 use Rattle.timing.specs.Kinds.{kindOf}
+use Rattle.timing.specs.Banks.{wrongBank}
 use Rattle.timing.specs.Earliest.{lossOf, Standing, AsksFor, Legal, NamedGap, floor, earliest}
 use Rattle.history.specs.Records.{Current, closed, session}
 use Rattle.history.specs.Answers.{Refusal, _gives_, firstOf, openLines, placeLines, stampLines, offerLines, depthLines, roomLines, Reply}
@@ -38,7 +39,7 @@ linesOf room count now (calls (offer kind rank bank t)) =
     kindLines (kindOf kind)
     (λ k.
     let c : Command = record { kind = k; rank = rank; bank = bank } in
-    offerLines (st .settings .opening) (floor st) (earliest st c) c t ++ roomLines room count))
+    offerLines (st .settings .opening) (floor st) (wrongBank st c) (earliest st c) c t ++ roomLines room count))
 linesOf room count now (calls take-back) = openedLines now (λ st. depthLines (st .depth) ++ roomLines room count)
 linesOf room count now (asks-earliest kind rank bank) =
     openedLines now (λ st. kindLines (kindOf kind) (λ k. placeLines (st .settings .opening) (record { kind = k; rank = rank; bank = bank })))
@@ -61,13 +62,14 @@ pub record AsksMore (st : Standing) (c : Command) (t : ℕ) : Type 0 where
 
 -- with lines 1 to 6 passed
 pub record OfferMeans (room count : ℕ) (st : Standing) (c : Command) (t : ℕ) (reply : Reply) : Type 0 where
-  pub too-early : (reply .number ≡ 7) ↔ AsksMore st c t
+  pub wrong-state : (reply .number ≡ 12) ↔ (wrongBank st c ≡ true)
+  pub too-early : (reply .number ≡ 7) ↔ ((wrongBank st c ≡ false) × AsksMore st c t)
   pub legal : reply .number ≡ 7 → Legal st c (reply .cycle)
   pub smallest : reply .number ≡ 7 → (u : ℕ) → Legal st c u → reply .cycle ≤ u
   pub gap : reply .number ≡ 7 → NamedGap st c (record { cycle = reply .cycle; gap = reply .gap })
   pub loss : reply .number ≡ 7 → reply .loss ≡ lossOf (st .settings) (reply .gap)
-  pub accepted : (reply .number ≡ 0) ↔ (Legal st c t × (count < room))
-  pub full : (reply .number ≡ 9) ↔ (Legal st c t × (room ≤ count))
+  pub accepted : (reply .number ≡ 0) ↔ (Legal st c t × (wrongBank st c ≡ false) × (count < room))
+  pub full : (reply .number ≡ 9) ↔ (Legal st c t × (wrongBank st c ≡ false) × (room ≤ count))
 
 -- lines 1 to 4 don't hold for this command
 pub record Askable (now : Current) (kind : ℕ) (c : Command) (st : Standing) : Type 0 where

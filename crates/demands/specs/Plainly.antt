@@ -16,7 +16,7 @@ use Rattle.statements.specs.Calls.{Seen, partIn}
 -- the numbers that document 01 gives each call, in its order, and 0
 unfoldable pub ownNumbers : Call → List ℕ
 ownNumbers (open-session o) = 10 ∷ 9 ∷ 0 ∷ []
-ownNumbers (offer kind rank bank t) = 1 ∷ 2 ∷ 3 ∷ 4 ∷ 5 ∷ 6 ∷ 7 ∷ 9 ∷ 0 ∷ []
+ownNumbers (offer kind rank bank t) = 1 ∷ 2 ∷ 3 ∷ 4 ∷ 5 ∷ 6 ∷ 12 ∷ 7 ∷ 9 ∷ 0 ∷ []
 ownNumbers take-back = 1 ∷ 8 ∷ 9 ∷ 0 ∷ []
 
 -- the cycle that an acceptance shows: an offer's own

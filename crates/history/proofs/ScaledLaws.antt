@@ -17,9 +17,10 @@ use Rattle.timing.specs.declared.rules.Command.{Command}
 use Rattle.timing.specs.Kinds.{kindOf}
 use Rattle.timing.specs.Earliest.{Settings, Stamped, Standing, Ask, floor, earliest}
 use Rattle.timing.specs.Scaled.{ratioOne, timesRatio, standingOne}
+use Rattle.timing.specs.Banks.{wrongBank}
 use Rattle.timing.specs.Editions.{newest}
 use Rattle.timing.proofs.Truth.{or-true}
-use Rattle.timing.proofs.ScaledLaws.{early-scaled, floor-scaled}
+use Rattle.timing.proofs.ScaledLaws.{early-scaled, floor-scaled, wrong-scaled}
 use Rattle.history.specs.Records.{Record, opening, command, takeBack, History, Current, closed, session, pushed, popped, standing}
 use Rattle.history.specs.Answers.{Refusal, _gives_, firstOf, lastCycle, goodRatio, goodRanks, goodLive, liveMode, badBank, openLines, depthLines, roomLines, offerLines, Verdict, replyOf, nextOf, openReply, offerReply, takeBackReply, openOn, offerOn, offerCase, takeBackOn, takeBackCase}
 use Rattle.history.specs.Struck.{Call, open-session, offer, take-back, verdict}
@@ -114,22 +115,23 @@ module _ (r : ℕ) (good : goodRatio r ≡ true) (room room′ : ℕ) (h : Histo
       low : ltb lastCycle t ≡ false
       low = le-ltb lastCycle t (omega (arith, within, mul-le-mul-left {m = 1} {n = r} t above))
 
-      by : (st : Standing) (e e′ : Ask) (c : Command) (p q u v : Bool)
-          → SameEnd r h (offerReply (st .number) (st .settings) e c t (firstOf ((p gives 3) ∷ (q gives 4) ∷ (false gives 5) ∷ (u gives 6) ∷ (v gives 7) ∷ (false gives 9) ∷ [])))
-          (offerReply (st .number) (ratioOne (st .settings)) e′ c (t * r) (firstOf ((p gives 3) ∷ (q gives 4) ∷ (false gives 5) ∷ (u gives 6) ∷ (v gives 7) ∷ (false gives 9) ∷ [])))
-      by st e e′ c true q u v = record { number = refl; next = refl; all = a }
-      by st e e′ c false true u v = record { number = refl; next = refl; all = a }
-      by st e e′ c false false true v = record { number = refl; next = refl; all = a }
-      by st e e′ c false false false true = record { number = refl; next = refl; all = a }
-      by st e e′ c false false false false = record { number = refl; next = refl; all = a }
+      by : (st : Standing) (e e′ : Ask) (c : Command) (p q u w v : Bool)
+          → SameEnd r h (offerReply (st .number) (st .settings) e c t (firstOf ((p gives 3) ∷ (q gives 4) ∷ (false gives 5) ∷ (u gives 6) ∷ (w gives 12) ∷ (v gives 7) ∷ (false gives 9) ∷ [])))
+          (offerReply (st .number) (ratioOne (st .settings)) e′ c (t * r) (firstOf ((p gives 3) ∷ (q gives 4) ∷ (false gives 5) ∷ (u gives 6) ∷ (w gives 12) ∷ (v gives 7) ∷ (false gives 9) ∷ [])))
+      by st e e′ c true q u w v = record { number = refl; next = refl; all = a }
+      by st e e′ c false true u w v = record { number = refl; next = refl; all = a }
+      by st e e′ c false false true w v = record { number = refl; next = refl; all = a }
+      by st e e′ c false false false true v = record { number = refl; next = refl; all = a }
+      by st e e′ c false false false false true = record { number = refl; next = refl; all = a }
+      by st e e′ c false false false false false = record { number = refl; next = refl; all = a }
 
       go : (k : Current) → RatioIs r k → (m : MaybeKind) → SameEnd r h (offerCase room (length h) k m rank bank t) (offerCase room′ (length h) (oneOf r k) m rank bank (t * r))
       go closed e m = record { number = refl; next = refl; all = a }
       go (session st) e NoKind = record { number = refl; next = refl; all = a }
       go (session st) e (Kind k) =
           let c : Command = record { kind = k; rank = rank; bank = bank } in
-          rw (low, le-ltb lastCycle (t * r) within, lt-leb room (length h) free, lt-leb room′ (length h) free′, ← floor-scaled r above st e c t, ← early-scaled r above st e c t)
-          (by st (earliest st c) (earliest (standingOne r st) c) c (leb (st .settings .opening .ranks) rank) (badBank k bank) (ltb t (floor st)) (ltb t (earliest st c .cycle)))
+          rw (low, le-ltb lastCycle (t * r) within, lt-leb room (length h) free, lt-leb room′ (length h) free′, ← floor-scaled r above st e c t, wrong-scaled r st c, ← early-scaled r above st e c t)
+          (by st (earliest st c) (earliest (standingOne r st) c) c (leb (st .settings .opening .ranks) rank) (badBank k bank) (ltb t (floor st)) (wrongBank st c) (ltb t (earliest st c .cycle)))
 
   take-back-same : SameEnd r h (takeBackOn room h) (takeBackOn room′ (one r h))
   unfolding takeBackOn firstOf

@@ -9,7 +9,7 @@ use Rattle.timing.specs.declared.clocks.DramCycles.{DramCycles}
 use Rattle.timing.specs.declared.kinds.CommandKind.{CommandKind}
 use Rattle.timing.specs.declared.kinds.CommandKind.the-variants.{Act, Rd, Wr, Prepb, Preab, Refab, Refpb}
 use Rattle.timing.specs.Kinds.{codeOf}
-use Rattle.timing.specs.Editions.{documentOne, anyPrecharge}
+use Rattle.timing.specs.Editions.{documentOne, anyPrecharge, bankStates}
 use Rattle.timing.specs.Earliest.{Settings}
 use Rattle.history.specs.Records.{Record, opening, command, takeBack, History}
 use Rattle.history.specs.Answers.{Reply, replyOf, maxRecords, offerOn, earliestOn, fine}
@@ -142,6 +142,28 @@ lossCases =
     ratioCases 1 (reply 7 18 3) (reply 0 18 3) (reply 0 21 15)
     ++ ratioCases 2 (reply 7 9 3) (reply 0 9 3) (losing 1 0 11 15)
     ++ ratioCases 4 (losing 2 7 5 3) (losing 2 0 5 3) (losing 3 0 6 15)
+
+-- what a bank can do, no K: 12 in edition 2, after 6 and before 7; before that edition no bank is looked at
+abbrev pub stateCases : ℕ → Reply → List Case
+stateCases edition wrong =
+    let a = settingsIn edition 4 0 gapsA in
+    let two = at Act 0 0 ∷ at Act 3 2 ∷ [] in
+    case a [] (offer Rd 0 100) wrong ∷
+    case a (at Act 0 0 ∷ []) (offer Act 0 100) wrong ∷
+    case a (at Act 0 0 ∷ []) (offer Act 0 0) (reply 6 0 0) ∷
+    case a two (offer Refab 0 100) wrong ∷
+    case a two (offer Refpb 3 100) wrong ∷
+    case a (two ++ at Preab 0 20 ∷ []) (offer Wr 3 100) wrong ∷
+    case a (two ++ at Preab 0 20 ∷ []) (offer Refab 0 100) (reply 0 100 0) ∷
+    case a (two ++ at Preab 0 20 ∷ takeBack 0 ∷ []) (offer Wr 3 100) (reply 0 100 0) ∷
+    case a (two ++ at Preab 0 20 ∷ at Preab 0 40 ∷ takeBack 0 ∷ []) (offer Wr 3 100) wrong ∷
+    case a (two ++ at Prepb 3 20 ∷ []) (offer Wr 0 100) (reply 0 100 0) ∷
+    []
+
+unfoldable pub bankCases : List Case
+bankCases =
+    stateCases anyPrecharge (reply 0 100 0) ++ stateCases bankStates (reply 12 0 0)
+    ++ case (settingsIn bankStates 4 0 gapsA) (at Act 0 0 ∷ []) (offer Act 0 1) (reply 12 0 0) ∷ []
 
 abbrev pub answered : History → Question → Reply
 answered h (earliest k bank) = earliestOn h (codeOf k) 0 bank

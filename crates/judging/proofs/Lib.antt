@@ -1,2 +1,3 @@
+pub mod BankLaws
 pub mod JudgeLaws
 pub mod TakeLaws

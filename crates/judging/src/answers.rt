@@ -58,6 +58,8 @@ impl Answer {
 
     pub const BAD_RECORD: u64 = 11;
 
+    pub const WRONG_STATE: u64 = 12;
+
     // A number with zeros beside it.
     pub fn plain(number: u64) -> Answer
         ensures { λ r. ⌜ replyIn r ≡ plain number ⌝ }

@@ -1,3 +1,4 @@
 pub mod RepLaws
+pub mod BankLaws
 pub mod RoundedLaws
 pub mod StoreLaws

@@ -1,3 +1,4 @@
 pub mod Stamps
 pub mod State
+pub mod Banks
 pub mod Rep

@@ -8,7 +8,7 @@ use lib.Dec.{T, eqb}
 use lib.ListN.{length, getD, drop}
 use Rattle.timing.specs.declared.kinds.CommandKind.the-variants.{Act}
 use Rattle.timing.specs.declared.rules.Command.{Command}
-use Rattle.timing.specs.Kinds.{sameKind}
+use Rattle.timing.specs.Kinds.{sameKind, allBanks}
 use Rattle.timing.specs.Earliest.{Stamped, cycleAfter, acts}
 use Rattle.session.specs.declared.stamps.Stamp.{Stamp}
 use Rattle.session.specs.declared.state.Entry.{Entry}
@@ -42,6 +42,7 @@ actsIn xs =
 pub record Placed (c : Command) (t : ℕ) : Type 0 where
   pub rank : c .rank < 2
   pub bank : c .bank < 16
+  pub whole : T (allBanks (c .kind)) → c .bank ≡ 0
   pub cycle : t < cycleBound
 
 -- survivors, newest first: each placed, and each later than those behind it

@@ -21,7 +21,7 @@ use Rattle.journal.specs.declared.records.Offer.{Offer}
 use Rattle.journal.specs.Bytes.{bytesOf, offerFrom}
 use Rattle.journal.specs.Restore.{putAt, bytesAfter, pieces, offersFrom}
 use Rattle.journal.proofs.PieceLaws.{from, piece}
-use Rattle.judging.specs.Judged.{afterOf, earlyIn, settingsBy, isClosed, takenState}
+use Rattle.judging.specs.Judged.{afterOf, earlyIn, wrongIn, settingsBy, isClosed, takenState}
 use Rattle.statements.specs.Exact.{offerInCase, offerIn, stateAfter, Left}
 use Rattle.statements.specs.Rep.{Rep}
 use Rattle.statements.specs.Bursts.{Over, over, Burst, ended, goesOn, inARow, verdictIn, afterIn, burstIn, afterOn, burstOn, Means, Bursts, OffersOne, InARow, none-left, one-refused, one-accepted}
@@ -52,7 +52,7 @@ offer-numbered room s kind rank bank t = go (isClosed s) (kindOf kind)
     go false NoKind = eqb-false 2 0 refl
     go false (Kind k) =
         let c : Command = record { kind = k; rank = rank; bank = bank } in
-        reply-numbered (s .terms .number) (settingsBy (s .terms)) (earlyIn s c) c t (firstOf (offerLines (s .terms .opening) (afterOf (s .progress)) (earlyIn s c) c t ++ roomLines room (s .progress .records)))
+        reply-numbered (s .terms .number) (settingsBy (s .terms)) (earlyIn s c) c t (firstOf (offerLines (s .terms .opening) (afterOf (s .progress)) (wrongIn s c) (earlyIn s c) c t ++ roomLines room (s .progress .records)))
 
 number : {a b : Reply} → a ≡ b → a .number ≡ b .number
 number e = ap (λ (q : Reply). q .number) e

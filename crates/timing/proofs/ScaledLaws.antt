@@ -1,14 +1,18 @@
 -- A cycle is legal in a session at ratio r exactly if r times that cycle is in the same session at ratio 1 with every cycle times r.
 use mathlib.Core.Path.{_≡_, refl, sym, _∙_, ap, subst}
 use mathlib.Core.Logic.{inl, inr, ⊎-elim, _↔_}
-use mathlib.Core.Bool.{Bool, true, false}
+use mathlib.Core.Bool.{Bool, true, false, cond, _&&_}
 use mathlib.Core.List.{List, [], _∷_, map}
 use Prim.Native.Nat.{ℕ, suc, _+_, _-_, _*_, _≤_, _<_}
 use native.Mathlib.Nat.{add-mul, mul-le-mul-right}
 use native.Mathlib.Omega.{arith}
 use lib.Dec.{T, leb, ltb}
 use borrow.Author.Tests.{leb-true, leb-false, ltb-true, ltb-false, lt-ltb, le-ltb}
+use Rattle.timing.specs.declared.kinds.CommandKind.the-variants.{Act}
 use Rattle.timing.specs.declared.rules.Command.{Command}
+use Rattle.timing.specs.Banks.{speaksOf, isOpen, wrongFor, wrongBank}
+use Rattle.timing.specs.Editions.{bankStates, has}
+use Rattle.timing.specs.Kinds.{sameKind}
 use Rattle.timing.specs.Clocks.{ceilDiv}
 use Rattle.timing.specs.Rules.{binds}
 use Rattle.timing.specs.Earliest.{Stamped, Standing, gapOf, reach, isAct, cycleAfter, floor, ByPair, ByFour, NthAct, newest, behind-act, behind-other, AsksFor, LaterThanLast, Legal, earliest}
@@ -146,3 +150,12 @@ module _ (r : ℕ) (above : 0 < r) where
             go : (b : Bool) → ltb t (x .cycle + 1) ≡ b → b ≡ ltb (t * r) (x .cycle * r + 1)
             go true e = sym (lt-ltb (t * r) (x .cycle * r + 1) (omega (arith, times-le t (x .cycle) (omega (arith, ltb-true t (x .cycle + 1) e)))))
             go false e = sym (le-ltb (t * r) (x .cycle * r + 1) (omega (arith, above, times-le (x .cycle + 1) t (ltb-false t (x .cycle + 1) e), add-mul (x .cycle) 1 r)))
+
+-- the state of a bank knows no cycle
+open-scaled : (r rank bank : ℕ) (xs : List Stamped) → isOpen rank bank (map (timesRatio r) xs) ≡ isOpen rank bank xs
+unfolding isOpen
+open-scaled r rank bank [] = refl
+open-scaled r rank bank (x ∷ xs) = ap (λ (b : Bool). cond (speaksOf rank bank (x .command)) (sameKind (x .command .kind) Act) b) (open-scaled r rank bank xs)
+
+pub wrong-scaled : (r : ℕ) (st : Standing) (c : Command) → wrongBank (standingOne r st) c ≡ wrongBank st c
+wrong-scaled r st c = λ i. has (st .settings .opening) bankStates && wrongFor (c .kind) (c .bank) (λ bank. open-scaled r (c .rank) bank (st .survivors) i)

@@ -12,7 +12,7 @@ use borrow.Author.Tests.{lt-ltb, ltb-true, ltb-false, leb-true, leb-false, le-le
 use Rattle.timing.specs.declared.kinds.CommandKind.{CommandKind}
 use Rattle.timing.specs.declared.rules.Opening.{Opening}
 use Rattle.timing.specs.Kinds.{codeOf, allBanks}
-use Rattle.timing.specs.Editions.{anyPrecharge, newest, editionCount, has, knownEdition}
+use Rattle.timing.specs.Editions.{anyPrecharge, lastRules, ruleEditions, has, hasRules}
 use Rattle.timing.specs.Rules.{classFor, rules, matching, ruleGap, firstOr0, tableGap, matches, Rule, covers, modeCount}
 use Rattle.timing.specs.Table.{ungrouped, grouped, ungroupedSince1, groupedSince1, layerOf, layerPlace, tableLength, matchingAt, entryAt, openedAs, alone, agreesBelow, agrees}
 use Rattle.timing.proofs.Truth.{and-left, and-right, true-is}
@@ -43,7 +43,7 @@ alone-at (suc n) k t l =
     go true e below here = below (ltb-true k n e)
     go false e below here = let same : k ≡ n = omega (arith, ltb-false k n e) in rw same here
 
-module _ (e m class a b : ℕ) (he : e < editionCount) (hm : m < 3) (hc : class < 3) (ha : a < 7) (hb : b < 7) where
+module _ (e m class a b : ℕ) (he : e < ruleEditions) (hm : m < 3) (hc : class < 3) (ha : a < 7) (hb : b < 7) where
   abbrev place : ℕ
   place = (((e * 3 + m) * 3 + class) * 7 + a) * 7 + b
 
@@ -71,20 +71,20 @@ module _ (e m class a b : ℕ) (he : e < editionCount) (hm : m < 3) (hc : class 
 code-place : (k : CommandKind) → codeOf k - 1 < 7
 code-place k = omega (arith, code-low k, code-high k)
 
--- THE RULES LOOK AT NOTHING of an opening but its edition and mode, and an edition after the newest has what the newest has: no rule comes later
+-- THE RULES LOOK AT NOTHING of an opening but its edition and mode, and an edition after the last that adds rules has what that one has: no rule comes later
 abbrev settled : Opening → Opening
-settled o = openedAs (min (o .edition) newest) (o .mode)
+settled o = openedAs (min (o .edition) lastRules) (o .mode)
 
-has-settled : (o : Opening) (edition : ℕ) → edition ≤ newest → has (settled o) edition ≡ has o edition
+has-settled : (o : Opening) (edition : ℕ) → edition ≤ lastRules → has (settled o) edition ≡ has o edition
 has-settled o edition l = go (leb edition (o .edition)) refl
   where
-    go : (t : Bool) → leb edition (o .edition) ≡ t → leb edition (min (o .edition) newest) ≡ t
-    go true e = le-leb edition (min (o .edition) newest) (omega (arith, leb-true edition (o .edition) e))
-    go false e = lt-leb edition (min (o .edition) newest) (omega (arith, leb-false edition (o .edition) e))
+    go : (t : Bool) → leb edition (o .edition) ≡ t → leb edition (min (o .edition) lastRules) ≡ t
+    go true e = le-leb edition (min (o .edition) lastRules) (omega (arith, leb-true edition (o .edition) e))
+    go false e = lt-leb edition (min (o .edition) lastRules) (omega (arith, leb-false edition (o .edition) e))
 
 pub allKnown : List Rule → Bool
 allKnown [] = true
-allKnown (r ∷ rs) = knownEdition (r .since) && allKnown rs
+allKnown (r ∷ rs) = hasRules (r .since) && allKnown rs
 
 all-known : T (allKnown rules)
 unfolding allKnown rules
@@ -94,9 +94,9 @@ settled-same : (o : Opening) (class : ℕ) (a b : CommandKind) (rs : List Rule) 
 unfolding matching allKnown
 settled-same o class a b [] t = refl
 settled-same o class a b (r ∷ rs) t =
-    let known = and-left (knownEdition (r .since)) (allKnown rs) t in
-    rw (has-settled o (r .since) (leb-true (r .since) newest (true-is (knownEdition (r .since)) known)))
-    (ap (λ (ns : List ℕ). cond (matches o class a b r) (r .number ∷ ns) ns) (settled-same o class a b rs (and-right (knownEdition (r .since)) (allKnown rs) t)))
+    let known = and-left (hasRules (r .since)) (allKnown rs) t in
+    rw (has-settled o (r .since) (leb-true (r .since) lastRules (true-is (hasRules (r .since)) known)))
+    (ap (λ (ns : List ℕ). cond (matches o class a b r) (r .number ∷ ns) ns) (settled-same o class a b rs (and-right (hasRules (r .since)) (allKnown rs) t)))
 
 settled-layer : (o : Opening) → layerOf (settled o) ≡ layerOf o
 settled-layer o = ap (λ (t : Bool). cond t (cond (eqb (o .mode) 0) ungroupedSince1 groupedSince1) (cond (eqb (o .mode) 0) ungrouped grouped)) (has-settled o anyPrecharge (lit≤ tt))
@@ -111,11 +111,11 @@ module _ (o : Opening) (class : ℕ) (a b : CommandKind) (hm : o .mode < 3) (hc 
   entry-alone : matching o class a b rules ≡ only (getD (layerOf o) (layerPlace class a b) 0)
   unfolding agrees
   entry-alone =
-      let e = min (o .edition) newest in
+      let e = min (o .edition) lastRules in
       let m = o .mode in
       let x = codeOf a - 1 in
       let y = codeOf b - 1 in
-      let he : e < editionCount = omega arith in
+      let he : e < ruleEditions = omega arith in
       let hx = code-place a in
       let hy = code-place b in
       let p = (((e * 3 + m) * 3 + class) * 7 + x) * 7 + y in
@@ -193,7 +193,7 @@ silentBelow zero class a b = true
 silentBelow (suc i) class a b = eqb (ruleGap (asNumbered i) class a b) 0 && silentBelow i class a b
 
 unfoldable pub silent : ℕ → CommandKind → CommandKind → Bool
-silent class a b = silentBelow (editionCount * 3) class a b
+silent class a b = silentBelow (ruleEditions * 3) class a b
 
 module _ (class : ℕ) (a b : CommandKind) where
   silent-at : (n i : ℕ) → T (silentBelow n class a b) → i < n → ruleGap (asNumbered i) class a b ≡ 0
@@ -214,9 +214,9 @@ module _ (class : ℕ) (a b : CommandKind) where
       go : (y : Bool) → ltb (o .mode) modeCount ≡ y → cond y (firstOr0 (matching o class a b rules)) 0 ≡ 0
       go true e =
           let low = ltb-true (o .mode) modeCount e in
-          let i = min (o .edition) newest * 3 + o .mode in
-          let edition : i / 3 ≡ min (o .edition) newest = omega arith in
+          let i = min (o .edition) lastRules * 3 + o .mode in
+          let edition : i / 3 ≡ min (o .edition) lastRules = omega arith in
           let mode : i % 3 ≡ o .mode = omega arith in
-          let none : ruleGap (settled o) class a b ≡ 0 = rw (edition, mode) at (silent-at (editionCount * 3) i t (omega arith)) in
+          let none : ruleGap (settled o) class a b ≡ 0 = rw (edition, mode) at (silent-at (ruleEditions * 3) i t (omega arith)) in
           rw (sym (settled-same o class a b rules all-known)) none
       go false e = refl

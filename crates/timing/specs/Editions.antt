@@ -12,17 +12,28 @@ documentOne = 0
 abbrev pub anyPrecharge : ℕ
 anyPrecharge = 1
 
+-- edition 2, request 2026-07: a command is refused where its bank can't do it
+abbrev pub bankStates : ℕ
+bankStates = 2
+
 -- a live opening writes the newest
 abbrev pub newest : ℕ
-newest = anyPrecharge
+newest = bankStates
 
-abbrev pub editionCount : ℕ
-editionCount = suc newest
+-- the last edition that adds a pair rule: later ones have the rules that it has
+abbrev pub lastRules : ℕ
+lastRules = anyPrecharge
+
+abbrev pub ruleEditions : ℕ
+ruleEditions = suc lastRules
 
 -- the opening's edition has what an edition added
 abbrev pub has : Opening → ℕ → Bool
 has o edition = leb edition (o .edition)
 
--- an edition that the program knows
+-- an edition whose rules are in the table, and one that the program knows
+abbrev pub hasRules : ℕ → Bool
+hasRules edition = leb edition lastRules
+
 abbrev pub knownEdition : ℕ → Bool
 knownEdition edition = leb edition newest

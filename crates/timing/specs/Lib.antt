@@ -1,6 +1,7 @@
 pub mod Kinds
 pub mod Clocks
 pub mod Editions
+pub mod Banks
 pub mod Rules
 pub mod Table
 pub mod Earliest

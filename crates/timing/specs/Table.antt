@@ -8,7 +8,7 @@ use lib.ListN.{getD}
 use Rattle.timing.specs.declared.kinds.CommandKind.{CommandKind}
 use Rattle.timing.specs.declared.rules.Opening.{Opening}
 use Rattle.timing.specs.Kinds.{codeOf}
-use Rattle.timing.specs.Editions.{anyPrecharge, editionCount, has}
+use Rattle.timing.specs.Editions.{anyPrecharge, ruleEditions, has}
 use Rattle.timing.specs.Rules.{rules, matching, kindAt}
 
 -- a row for each first kind, ACT RD WR PREPB PREAB REFAB REFPB, and in it a number for each second kind. Edition 0, mode 0
@@ -134,9 +134,9 @@ layerOf o = cond (has o anyPrecharge) (cond (eqb (o .mode) 0) ungroupedSince1 gr
 abbrev pub layerPlace : ℕ → CommandKind → CommandKind → ℕ
 layerPlace class a b = (class * 7 + (codeOf a - 1)) * 7 + (codeOf b - 1)
 
--- the table: for each edition three modes of 147 entries
+-- the table: for each edition that adds rules three modes of 147 entries
 abbrev pub tableLength : ℕ
-tableLength = editionCount * 441
+tableLength = ruleEditions * 441
 
 abbrev pub openedAs : ℕ → ℕ → Opening
 openedAs edition mode = record { ratio = 1; ranks = 1; mode = mode; edition = edition; client = 0 }

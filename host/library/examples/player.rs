@@ -70,6 +70,7 @@ fn offered(bench: &mut Bench, name: &str, place: [u64; 3]) -> Result<String, End
         Offered::BadBank => 4,
         Offered::PastLastCycle => 5,
         Offered::NotLater => 6,
+        Offered::WrongState => 12,
         Offered::NoRoom => 9,
     };
     Ok(format!("offer {refused} 0 0 0"))

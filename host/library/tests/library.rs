@@ -123,17 +123,49 @@ impl Pair {
             rank
         };
         let banks = self.rng.pick(&[2, 4, 16]);
+        let kind = self.able(kind, rank);
         let bank = if kind == 5 || kind == 6 {
             0
         } else {
             self.rng.below(banks)
         };
+        let kind = self.fitting(kind, rank, bank);
         let bank = if wild {
             self.rng.pick(&[15, 16, 1, 256, u64::MAX, bank])
         } else {
             bank
         };
         (kind, rank, bank)
+    }
+
+    fn is_open(&self, rank: u64, bank: u64) -> bool {
+        let last = |kind: u64, bank: u64| {
+            let slot = (rank * 7 + kind - 1) * 16 + bank;
+            self.session.last[slot as usize % 224]
+        };
+        last(1, bank) > last(4, bank).max(last(5, 0))
+    }
+
+    /// Mostly no refresh of a rank with open banks: they are closed first.
+    fn able(&mut self, kind: u64, rank: u64) -> u64 {
+        let some = kind == 6 && (0..16).any(|bank| self.is_open(rank % 2, bank));
+        if some && self.session.terms.opening.edition > 1 && self.rng.chance(80) {
+            return 5;
+        }
+        kind
+    }
+
+    /// Mostly what the bank can do.
+    fn fitting(&mut self, kind: u64, rank: u64, bank: u64) -> u64 {
+        if self.session.terms.opening.edition < 2 || self.rng.chance(10) {
+            return kind;
+        }
+        match (kind, self.is_open(rank % 2, bank % 16)) {
+            (1, true) => self.rng.pick(&[2, 3, 4]),
+            (2 | 3, false) => 1,
+            (7, true) => 4,
+            _ => kind,
+        }
     }
 
     fn ask(&mut self, (kind, rank, bank): (u64, u64, u64)) -> Numbers {
@@ -181,6 +213,13 @@ impl Pair {
                     .entry(("tRPab", opening.edition.into(), kind))
                     .or_default() += 1;
             }
+        }
+        if came.number == 12 {
+            let edition = self.session.terms.opening.edition;
+            *self
+                .seen
+                .entry(("state", edition.into(), kind))
+                .or_default() += 1;
         }
         *self
             .seen
@@ -366,7 +405,7 @@ fn five_million_calls_as_the_model() {
 fn every_answer_came(seen: &Seen) {
     let calls: [(&str, &[u64]); 7] = [
         ("open", &[0, 9, 10]),
-        ("offer", &[0, 1, 2, 3, 4, 5, 6, 7, 9]),
+        ("offer", &[0, 1, 2, 3, 4, 5, 6, 7, 9, 12]),
         ("earliest", &[0, 1, 2, 3, 4]),
         ("take back", &[0, 1, 8, 9]),
         ("status", &[0, 1]),
@@ -393,15 +432,23 @@ fn every_answer_came(seen: &Seen) {
             assert_eq!(came, modes.contains(&mode), "gap {gap} in mode {mode}");
         }
     }
-    // REFPB was too early by tRPab since edition 1, and in no edition before it; REFAB, also after a PREAB, in both.
-    for (kind, editions) in [(REFPB, 1..2), (REFAB, 0..2)] {
-        for edition in 0..2 {
+    // REFPB was too early by tRPab since edition 1, and in no edition before it; REFAB, also after a PREAB, in all.
+    for (kind, editions) in [(REFPB, 1..3), (REFAB, 0..3)] {
+        for edition in 0..3 {
             let came = seen.contains_key(&("tRPab", edition, kind));
             assert_eq!(
                 came,
                 editions.contains(&edition),
                 "kind {kind} in edition {edition}"
             );
+        }
+    }
+    // The state of a bank was wrong for each kind but the precharges, since edition 2.
+    for kind in 1..=7 {
+        for edition in 0..3 {
+            let came = seen.contains_key(&("state", edition, kind));
+            let due = edition == 2 && ![4, 5].contains(&kind);
+            assert_eq!(came, due, "kind {kind} in edition {edition}");
         }
     }
     // What ratios 2 and 4 can lose, beside 7 and beside nothing else.
@@ -574,8 +621,7 @@ fn the_state_field_by_field() {
         assert_eq!(twin::open(&mut state, &mut room, given, client, &gaps), 0);
         assert_eq!(session, state);
         for _ in 0..3000 {
-            let (kind, rank, bank) = (rng.between(1, 7), rng.below(2), rng.below(16));
-            let bank = if kind == 5 || kind == 6 { 0 } else { bank };
+            let (kind, rank, bank) = drawn(&mut rng, &state);
             let cycle = twin::earliest(&state, kind, rank, bank).cycle;
             let came = checker::offer(&mut session, &mut lent, kind, rank, bank, cycle);
             assert_eq!(
@@ -597,6 +643,24 @@ fn the_state_field_by_field() {
         state.last.iter().filter(|stamp| **stamp != 0).count(),
         2 * (5 * 16 + 2)
     );
+}
+
+/// Mostly a command that its bank can do.
+fn drawn(rng: &mut Rng, state: &Session) -> (u64, u64, u64) {
+    loop {
+        // A bank is open long enough for each kind to meet it so.
+        let kind = match rng.below(40) {
+            0 => 5,
+            1 => 6,
+            _ => rng.pick(&[1, 1, 2, 2, 3, 3, 4, 7]),
+        };
+        let (rank, bank) = (rng.below(2), rng.below(16));
+        let bank = if kind == 5 || kind == 6 { 0 } else { bank };
+        let [k, r, b] = [kind - 1, rank, bank].map(|n| n as usize);
+        if !twin::wrong_bank(state, k, r, b) || rng.chance(5) {
+            return (kind, rank, bank);
+        }
+    }
 }
 
 /// Any bytes are a state value: no call faults, and a refusal hands the same state back.

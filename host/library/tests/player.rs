@@ -388,7 +388,7 @@ fn play_burst(journal: &Path) {
     let journal = Journal::at(journal, 100).expect("a journal");
     let mut bench = Bench::restore(journal).expect("a bench");
     bench.open(&settings).expect("an opening");
-    let command = |n| rossinhiu::bench::Command::new(Kind::Rd, 0, n % 16, n);
+    let command = |n| rossinhiu::bench::Command::new(Kind::Prepb, 0, n % 16, n);
     let list: Vec<_> = (0..20).map(command).collect();
     match bench.offer_all(&list) {
         Ok(burst) => println!("told {}", burst.accepted),
@@ -688,7 +688,7 @@ fn bursts_in_c_and_in_cpp() {
         .filter(|line| line.contains(' ') && !line.starts_with("0 "))
         .map(|line| line.split(' ').nth(1).unwrap())
         .collect();
-    let all = ["0", "2", "3", "4", "5", "6", "7", "9"];
+    let all = ["0", "12", "2", "3", "4", "5", "6", "7", "9"];
     assert_eq!(middle, BTreeSet::from(all));
     assert!(due.contains("\n0 1 0 0 0\n"), "no session");
 }

@@ -3,8 +3,8 @@
 
 use crate::console::LONGEST_LINE;
 use crate::generate::{
-    any_opening, bad_opening, older, precharge_and_refresh, reopened, Change, Habits, Reopened,
-    Rng, LIVE_MODES, NO_KINDS, SETTINGS_A, TOO_LARGE,
+    any_opening, bad_opening, closing, fitted, older, precharge_and_refresh, reopened, wrong_cycle,
+    wrong_place, Change, Habits, Reopened, Rng, LIVE_MODES, NO_KINDS, SETTINGS_A, TOO_LARGE,
 };
 use crate::model::{
     bytes_of, Answer, BurstAnswer, Command, Record, State, Status, ACT, LAST_CYCLE, NAMES,
@@ -77,11 +77,16 @@ impl<'a> Drawing<'a> {
         self.played.survivors().last().map(|s| s.cycle)
     }
 
-    /// A command of a place that is there, at its earliest cycle.
+    /// A command of a place that is there, at its earliest cycle. Its bank can do it, where that is looked at.
     fn earliest_command(&self, rng: &mut Rng) -> Command {
         let kind = self.habits.kind(rng);
         let rank = rng.below(self.ranks());
-        let bank = self.habits.bank(rng, kind);
+        let place = (kind, rank, self.habits.bank(rng, kind));
+        let is_fit = self.played.judges_banks() || rng.chance(self.habits.care);
+        let (kind, rank, bank) = match is_fit {
+            true => fitted(rng, &self.played, place),
+            false => place,
+        };
         let mut command = Command {
             kind,
             rank,
@@ -112,12 +117,13 @@ impl<'a> Drawing<'a> {
         command
     }
 
-    /// A command that is refused with this number, 2 to 7; with 2 where the state has no place for it.
+    /// A command that is refused with this number, 2 to 7 or 12; with 2 where the state has no place for it.
     fn refused(&self, rng: &mut Rng, number: u64) -> Command {
         let command = self.earliest_command(rng);
         let found = match number {
             6 => self.not_later(rng, command),
             7 => self.too_early(rng),
+            12 => self.wrong_bank(rng),
             _ => None,
         };
         found.unwrap_or_else(|| self.spoiled(rng, command, if number > 5 { 2 } else { number }))
@@ -158,9 +164,26 @@ impl<'a> Drawing<'a> {
         }
     }
 
-    /// Not later than the last survivor.
+    /// What its bank can't do, where that is looked at: by its gaps in time or not.
+    fn wrong_bank(&self, rng: &mut Rng) -> Option<Command> {
+        let rank = rng.below(self.ranks());
+        let place = wrong_place(rng, &self.played, rank).filter(|_| self.played.judges_banks());
+        let (kind, rank, bank) = place?;
+        let cycle = wrong_cycle(rng, &self.played, (kind, rank, bank))?;
+        Some(Command {
+            kind,
+            rank,
+            bank,
+            cycle,
+        })
+    }
+
+    /// Not later than the last survivor; often the bank can't do it either.
     fn not_later(&self, rng: &mut Rng, mut command: Command) -> Option<Command> {
         let last = self.last()?;
+        if rng.chance(30) {
+            command = self.wrong_bank(rng).unwrap_or(command);
+        }
         command.cycle = rng.pick(&[last, last, last.saturating_sub(1), 0]);
         Some(command)
     }
@@ -206,7 +229,7 @@ impl<'a> Drawing<'a> {
     }
 }
 
-/// A refusal that a list meets: the place of its command, and the number, 2 to 7.
+/// A refusal that a list meets: the place of its command, and the number, 2 to 7 or 12.
 pub type Refusal = (usize, u64);
 
 /// A list of so many commands for a state, each legal behind those before it but for the refusal, if there is to be one; a refusal for which the
@@ -256,8 +279,37 @@ fn careless_list(rng: &mut Rng, (state, habits): (&State, &Habits), length: usiz
     drawing.list
 }
 
+/// A list of somebody who does not know of banks: each as early as it can be by its gaps, on a few banks, so that open and closed ones are met.
+/// What its bank can't do is not there for those behind it.
+pub fn bank_list(rng: &mut Rng, state: &State, length: usize) -> Vec<Command> {
+    let habits = Habits::any(rng);
+    let mut drawing = Drawing::new(state, &habits, WIDEST_IN_BYTES);
+    let rank = rng.below(drawing.ranks());
+    let first = rng.below(16);
+    for _ in 0..length {
+        let kind = rng.pick(&[ACT, ACT, RD, WR, PREPB, PREAB, REFAB, REFPB]);
+        let bank = match kind {
+            PREAB | REFAB => 0,
+            _ => first ^ rng.below(3),
+        };
+        let cycle = drawing.played.earliest(kind, rank, bank).0 as u64;
+        let command = Command {
+            kind,
+            rank,
+            bank,
+            cycle,
+        };
+        let can = !drawing.played.judges_banks() || drawing.played.bank_can(kind, rank, bank);
+        match can {
+            true => drawing.take(command),
+            false => drawing.list.push(command),
+        }
+    }
+    drawing.list
+}
+
 /// So many activates of a rank, each at its earliest cycle and on a bank that the window of four holds back, where there is one; at the second place
-/// named, if it is in the list, one cycle before that.
+/// named, if it is in the list, one cycle before that. Fewer where banks are looked at and all are open.
 pub fn activates_for(
     rng: &mut Rng,
     state: &State,
@@ -269,7 +321,9 @@ pub fn activates_for(
     for place in 0..length {
         let first = rng.below(16);
         let banks = (0..16).map(|bank| (first + bank) % 16);
-        let asked = banks.map(|bank| (bank, played.earliest(ACT, rank, bank)));
+        let judges = played.judges_banks();
+        let closed = banks.filter(|bank| !judges || played.bank_can(ACT, rank, *bank));
+        let asked = closed.map(|bank| (bank, played.earliest(ACT, rank, bank)));
         let asked: Vec<(u64, (u128, u64))> = asked.collect();
         let held = asked.iter().find(|(_, (_, gap))| *gap == 20);
         let next = asked.iter().min_by_key(|(_, (cycle, _))| *cycle);
@@ -293,11 +347,18 @@ pub fn activates_for(
 }
 
 /// So many precharges and refreshes of a rank by turns, each refresh of the kind that edition 1 holds back and at its earliest cycle. Often one of them is
-/// too early, if a gap holds it back.
+/// too early, if a gap holds it back. Before them stands what closes banks that are open.
 pub fn refreshes_for(rng: &mut Rng, state: &State, rank: u64, length: usize) -> Vec<Command> {
+    let mut list = match rng.chance(70) {
+        true => closing(state, rank, None),
+        false => Vec::new(),
+    };
     let mut played = state.clone();
-    let mut list: Vec<Command> = Vec::new();
-    let any_refresh = 1 + 2 * rng.below(length.max(2) as u64 / 2) as usize;
+    played
+        .records
+        .extend(list.iter().copied().map(Record::Command));
+    let any_refresh = list.len() + 1 + 2 * rng.below(length.max(2) as u64 / 2) as usize;
+    let length = list.len() + length;
     let early = rng.chance(65).then_some(any_refresh);
     while list.len() < length {
         let (precharge, (kind, bank)) = precharge_and_refresh(rng, &played, rank);
@@ -319,6 +380,15 @@ pub fn refreshes_for(rng: &mut Rng, state: &State, rank: u64, length: usize) -> 
     }
     list.truncate(length);
     list
+}
+
+/// A number that a command of a list can be refused with: 12 only where banks are looked at.
+pub fn any_number(rng: &mut Rng, state: &State) -> u64 {
+    let number = rng.between(2, 7);
+    match state.judges_banks() && rng.chance(30) {
+        true => 12,
+        false => number,
+    }
 }
 
 /// The first place, the last, the middle or any.
@@ -357,8 +427,8 @@ pub fn any_burst(rng: &mut Rng, state: &State, most: usize, widest: u64) -> Vec<
         3 => return losing_list(rng, (state, &habits), length.min(12).saturating_sub(2)),
         _ => {}
     }
-    let refusal = (any_place(rng, length), rng.between(2, 7));
-    let refusal = rng.chance(50).then_some(refusal);
+    let refusal = (any_place(rng, length), any_number(rng, state));
+    let refusal = rng.chance(60).then_some(refusal);
     list_for(rng, (state, &habits), length, refusal, widest)
 }
 
@@ -568,9 +638,12 @@ impl<C: Checker> Pair<C> {
             3 | 4 => {
                 let habits = Habits::any(rng);
                 let state = &self.model.state;
-                let list = match rng.chance(50) {
-                    true => losing_list(rng, (state, &habits), 0),
-                    false => any_burst(rng, state, 1, self.widest),
+                let early = Some((rng.below(2) as usize, 7));
+                let list = match rng.below(4) {
+                    0 => losing_list(rng, (state, &habits), 0),
+                    1 => bank_list(rng, state, 8),
+                    2 => list_for(rng, (state, &habits), 2, early, self.widest),
+                    _ => any_burst(rng, state, 4, self.widest),
                 };
                 for command in list {
                     let about = format!("offer{}", words_of(&command, command.kind));
@@ -592,7 +665,7 @@ impl<C: Checker> Pair<C> {
         }
         let mode = rng.pick(&LIVE_MODES);
         self.open_in(rng, mode)?;
-        if rng.chance(60) {
+        if rng.chance(75) {
             if rng.chance(50) {
                 self.burst(rng)?;
             }
@@ -1545,7 +1618,7 @@ mod tests {
     #[test]
     fn lists_are_handed_over_in_every_session() {
         let (mut within, mut rounds) = ([[0; 3]; EDITIONS], [[0; 3]; EDITIONS]);
-        for seed in 0..150 {
+        for seed in 0..225 {
             let handed = play_round(Rng::new(seed), u64::MAX, Model::new).unwrap();
             for (edition, mode) in (0..EDITIONS).flat_map(|e| [0, 1, 2].map(|m| (e, m))) {
                 let commands = handed.within[edition][mode];
@@ -1555,7 +1628,7 @@ mod tests {
         }
         println!("commands {within:?}, rounds with 20 of them {rounds:?}");
         let all: u64 = within.iter().flatten().sum();
-        assert!(within.iter().flatten().all(|n| 12 * n >= all), "{within:?}");
+        assert!(within.iter().flatten().all(|n| 18 * n >= all), "{within:?}");
         assert!(rounds.iter().flatten().all(|n| *n >= 25), "{rounds:?}");
     }
 
@@ -1603,6 +1676,31 @@ mod tests {
         }
     }
 
+    /// Request 2026-07, by the banks that the survivors leave open.
+    fn is_wrong(state: &State, command: &Command) -> bool {
+        let mut open = std::collections::BTreeSet::new();
+        for Command {
+            kind, rank, bank, ..
+        } in state.survivors()
+        {
+            match kind {
+                ACT => drop(open.insert((rank, bank))),
+                PREPB => drop(open.remove(&(rank, bank))),
+                PREAB => open.retain(|(other, _)| *other != rank),
+                _ => {}
+            }
+        }
+        let is_open = open.contains(&(command.rank, command.bank));
+        let is_new = state.session().is_some_and(|s| s.1.edition == 2);
+        is_new
+            && match command.kind {
+                ACT | REFPB => is_open,
+                RD | WR => !is_open,
+                REFAB => open.iter().any(|(rank, _)| *rank == command.rank),
+                _ => false,
+            }
+    }
+
     /// Document 01's lines from the last one up: the first that holds is left.
     fn refusal(state: &State, command: &Command, is_good: bool) -> Answer {
         let Command {
@@ -1619,6 +1717,9 @@ mod tests {
                 number: 7,
                 ..earliest
             };
+        }
+        if is_wrong(state, command) {
+            answer = zeros(12);
         }
         if last.is_some_and(|last| last >= cycle) {
             answer = zeros(6);
@@ -1706,9 +1807,10 @@ mod tests {
                 }
             }
         }
-        let mut due: Vec<(String, u64)> = (2..=7).map(|n| (format!("{n}"), 60)).collect();
+        let numbers = [2, 3, 4, 5, 6, 7, 12];
+        let mut due = numbers.map(|n| (format!("{n}"), 60)).to_vec();
         for place in ["first", "last", "between"] {
-            due.extend((2..=7).map(|n| (format!("{n} {place}"), 10)));
+            due.extend(numbers.map(|n| (format!("{n} {place}"), 10)));
         }
         due.extend([0, 1, 2].map(|length| (format!("length {length}"), 50)));
         due.extend(["0", "past the depth"].map(|key| (key.to_string(), 100)));

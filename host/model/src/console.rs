@@ -582,36 +582,39 @@ mod tests {
         for (line, due) in [
             (refused.as_str(), "open 10"),
             (&first, "open 0"),
-            ("offer RD 0 0 10", "offer 0 10 0 0"),
-            ("ask RD 0 3", "ask 0 18 6 0"),
-            ("ask RD 0 4", "ask 0 16 7 0"),
+            (
+                "burst ACT 0 0 0 ACT 0 2 8 ACT 0 3 16 RD 0 0 40",
+                "burst 4 0 0 0 0",
+            ),
+            ("ask RD 0 3", "ask 0 48 6 0"),
+            ("ask RD 0 4", "ask 0 46 7 0"),
             (&refused, "open 10"),
             ("poke 3 1", "poke 3 1"),
-            ("ask RD 0 3", "ask 0 18 6 0"),
-            ("restore 128", "restore 0 0"),
-            ("ask RD 0 1", "ask 0 18 6 0"),
-            ("ask RD 0 2", "ask 0 16 7 0"),
-            ("burst RD 0 2 16 RD 0 3 23", "burst 1 7 24 6 0"),
-            ("offer RD 0 0 21", "offer 7 22 7 0"),
+            ("ask RD 0 3", "ask 0 48 6 0"),
+            ("restore 320", "restore 0 0"),
+            ("ask RD 0 1", "ask 0 48 6 0"),
+            ("ask RD 0 2", "ask 0 46 7 0"),
+            ("burst RD 0 2 46 RD 0 3 53", "burst 1 7 54 6 0"),
+            ("offer RD 0 0 51", "offer 7 52 7 0"),
             ("back", "back 0"),
-            ("status", "status 0 7 0 1 1 10 4"),
+            ("status", "status 0 7 0 4 4 40 7"),
             (&refused, "open 10"),
             ("poke 3 3", "poke 3 3"),
-            ("restore 128", "restore 11 0"),
+            ("restore 320", "restore 11 0"),
             ("ask RD 0 2", "ask 1 0 0 0"),
         ] {
             assert_eq!(console.line(line.as_bytes(), true).unwrap(), due, "{line}");
         }
     }
 
-    /// A live opening is of edition 1; poked to edition 0 and restored, the session goes on with no gap between these pairs.
+    /// A live opening is of edition 2; poked to edition 0 and restored, the session goes on with no gap between these pairs.
     #[test]
     fn a_session_of_edition_0() {
         let opening = crate::generate::opening_a().replacen("4 1 0", "1 2 2", 1);
         let mut console = Console::new();
         for (line, due) in [
             (opening.as_str(), "open 0"),
-            ("bytes 48 2", "bytes 0100"),
+            ("bytes 48 2", "bytes 0200"),
             ("offer PREPB 1 9 10", "offer 0 10 0 0"),
             ("ask REFAB 0 0", "ask 0 11 0 0"),
             ("ask REFAB 1 0", "ask 0 31 15 0"),
@@ -630,7 +633,7 @@ mod tests {
             ("restore 384", "restore 11 3"),
             ("restore 192", "restore 0 0"),
             ("offer REFAB 1 0 30", "offer 7 31 15 0"),
-            ("poke 48 2", "poke 48 2"),
+            ("poke 48 3", "poke 48 3"),
             ("restore 192", "restore 11 0"),
             ("ask REFAB 1 0", "ask 1 0 0 0"),
             ("poke 48 0", "poke 48 0"),
@@ -639,7 +642,7 @@ mod tests {
             ("poke 49 0", "poke 49 0"),
             ("restore 384", "restore 0 0"),
             (&opening, "open 0"),
-            ("bytes 432 2", "bytes 0100"),
+            ("bytes 432 2", "bytes 0200"),
             ("bytes 48 2", "bytes 0000"),
             ("burst PREAB 0 0 0 REFPB 0 15 20", "burst 1 7 21 15 0"),
             ("restore 384", "restore 0 0"),
@@ -674,18 +677,58 @@ mod tests {
                 ("offer REFAB 0 1 17", "offer 4 0 0 0"),
                 ("burst", "burst 0 0 0 0 0"),
                 (&second, "open 0"),
-                ("burst RD 0 3 10 PREPB 0 3 13", "burst 1 7 14 9 1"),
-                ("ask PREPB 0 3", "ask 0 14 9 1"),
-                ("ask RD 0 4", "ask 0 13 7 0"),
+                ("burst ACT 0 3 0 RD 0 3 30 PREPB 0 3 33", "burst 2 7 34 9 1"),
+                ("ask PREPB 0 3", "ask 0 34 9 1"),
+                ("ask RD 0 4", "ask 0 33 7 0"),
                 ("lend 0", "lend 0"),
-                ("offer PREPB 0 3 13", "offer 7 14 9 1"),
-                ("offer PREPB 0 3 14", "offer 9 0 0 0"),
-                ("burst PREPB 0 3 14", "burst 0 9 0 0 0"),
+                ("offer PREPB 0 3 33", "offer 7 34 9 1"),
+                ("offer PREPB 0 3 34", "offer 9 0 0 0"),
+                ("burst PREPB 0 3 34", "burst 0 9 0 0 0"),
             ];
             let told = answers(in_file, &lines.map(|line| line.0));
             for ((line, due), told) in lines.iter().zip(told) {
                 assert_eq!(told, *due, "{line}");
             }
+        }
+    }
+
+    /// A live session refuses with 12 what the bank can't do, zeros beside it; poked to edition 1 and restored it goes on without.
+    #[test]
+    fn a_session_that_looks_at_banks() {
+        let opening = crate::generate::opening_a().replacen("4 1 0", "1 2 0", 1);
+        let mut console = Console::new();
+        for (line, due) in [
+            (opening.as_str(), "open 0"),
+            ("offer RD 0 3 0", "offer 12 0 0 0"),
+            ("ask RD 0 3", "ask 0 0 0 0"),
+            ("offer ACT 0 3 0", "offer 0 0 0 0"),
+            ("offer ACT 0 3 0", "offer 6 0 0 0"),
+            ("offer ACT 0 3 1", "offer 12 0 0 0"),
+            ("offer RD 0 3 1", "offer 7 18 3 0"),
+            ("ask ACT 0 3", "ask 0 60 1 0"),
+            ("burst RD 0 3 18 WR 0 4 40 WR 0 3 40", "burst 1 12 0 0 0"),
+            ("burst REFAB 0 0 50", "burst 0 12 0 0 0"),
+            ("burst REFAB 1 0 50", "burst 1 0 0 0 0"),
+            ("offer PREAB 0 0 60", "offer 0 60 0 0"),
+            ("offer WR 0 3 99", "offer 12 0 0 0"),
+            ("back", "back 0"),
+            ("offer WR 0 3 99", "offer 0 99 0 0"),
+            ("status", "status 0 7 0 4 4 99 7"),
+            ("lend 448", "lend 448"),
+            ("offer RD 0 4 500", "offer 12 0 0 0"),
+            ("offer RD 0 3 500", "offer 9 0 0 0"),
+            ("lend 4194304", "lend 4194304"),
+            ("restore 448", "restore 0 0"),
+            ("offer REFPB 0 3 500", "offer 12 0 0 0"),
+            ("poke 131 4", "poke 131 4"),
+            ("restore 448", "restore 11 2"),
+            ("poke 48 1", "poke 48 1"),
+            ("restore 448", "restore 0 0"),
+            ("offer REFPB 0 3 500", "offer 0 500 0 0"),
+            (&opening, "open 0"),
+            ("offer WR 0 3 0", "offer 12 0 0 0"),
+        ] {
+            assert_eq!(console.line(line.as_bytes(), true).unwrap(), due, "{line}");
         }
     }
 }

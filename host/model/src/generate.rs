@@ -9,13 +9,15 @@ use crate::model::{
 };
 use crate::sheet_calls::{any_sheet, malformed_gaps_line, sheet_of};
 
+mod banks;
 mod bursts;
 mod losses;
 mod openings;
 
+pub use banks::{banks_of, closing, fitted, wrong_cycle, wrong_place, Place};
 pub use openings::{
-    any_opening, bad_opening, in_mode, older, precharge_and_refresh, reopened, Change, Reopened,
-    EDITION_AT, LIVE_MODES, MODE_AT,
+    any_opening, bad_opening, early_refresh, in_mode, older, precharge_and_refresh, reopened,
+    Change, Reopened, EDITION_AT, LIVE_MODES, MODE_AT,
 };
 
 #[cfg(test)]
@@ -286,6 +288,7 @@ enum Act {
     Columns,
     Refreshes,
     Losses,
+    Banks,
     Lend,
     FillRoom,
     Cut,
@@ -357,6 +360,8 @@ const TASTES: [[(u64, u64); 7]; 6] = [
 pub struct Habits {
     busy: Vec<u64>,
     taste: usize,
+    /// How many of a hundred commands go by the state of their bank where nobody looks at it.
+    pub care: u64,
 }
 
 impl Habits {
@@ -379,7 +384,8 @@ impl Habits {
                 busy.push(bank ^ rng.pick(&[2, 3]));
             }
         }
-        Habits { busy, taste }
+        let care = rng.pick(&[0, 50, 100]);
+        Habits { busy, taste, care }
     }
 
     pub fn kind(&self, rng: &mut Rng) -> u64 {
@@ -418,6 +424,7 @@ impl Player {
             habits: Habits {
                 busy: vec![0, 1, 2],
                 taste: 0,
+                care: 50,
             },
             named: [0; 21],
             forms: FORMS,
@@ -619,7 +626,8 @@ impl Player {
         };
     }
 
-    fn any_command(&mut self) -> (u64, u64, u64) {
+    /// Whatever the state of its bank is.
+    fn any_place(&mut self) -> Place {
         let kind = self.habits.kind(&mut self.rng);
         let rank = match self.ranks() {
             1 => 0,
@@ -629,15 +637,27 @@ impl Player {
         (kind, rank, self.habits.bank(&mut self.rng, kind))
     }
 
-    /// A command, often the one of several whose gaps tie or are seldom named.
-    fn command(&mut self) -> (u64, u64, u64) {
-        let mut best = self.any_command();
+    fn any_command(&mut self) -> Place {
+        let place = self.any_place();
+        match self.is_careful() {
+            true => fitted(&mut self.rng, &self.console.state, place),
+            false => place,
+        }
+    }
+
+    fn command(&mut self) -> Place {
+        self.sought(Player::any_command)
+    }
+
+    /// One that is drawn so, often the one of several whose gaps tie or are seldom named.
+    fn sought(&mut self, draw: fn(&mut Player) -> Place) -> Place {
+        let mut best = draw(self);
         if !self.rng.chance(60) {
             return best;
         }
         let mut least = u64::MAX;
         for _ in 0..6 {
-            let (kind, rank, bank) = self.any_command();
+            let (kind, rank, bank) = draw(self);
             let (cycle, gap) = self.earliest((kind, rank, bank));
             let mut asking: Vec<u64> = Vec::new();
             for (asked, by) in self.console.state.asks(kind, rank, bank) {
@@ -691,7 +711,7 @@ impl Player {
     fn begin(&mut self, answer: Option<String>) {
         if answer.as_deref() == Some("open 0") {
             self.new_habits();
-            if self.rng.chance(50) {
+            if self.rng.chance(78) {
                 self.begin_older();
             }
             if self.rng.chance(30) {
@@ -810,6 +830,14 @@ impl Player {
     }
 
     fn offer(&mut self) {
+        if self.rng.chance(8) {
+            return self.wrong_offer();
+        }
+        self.timed_offer();
+    }
+
+    /// On, just before or just after the earliest cycle, or anywhere.
+    fn timed_offer(&mut self) {
         let (on, before, after) = match self.mood {
             Mood::Steady | Mood::Deep | Mood::FourActivates => (70, 14, 6),
             _ => (50, 20, 8),
@@ -866,7 +894,8 @@ impl Player {
     }
 
     fn ask(&mut self) {
-        let (kind, rank, bank) = self.command();
+        // It is about gaps only.
+        let (kind, rank, bank) = self.sought(Player::any_place);
         let kind = self.kind_word(kind);
         self.say(&format!("ask {kind} {rank} {bank}"));
     }
@@ -948,6 +977,10 @@ impl Player {
         }
         self.say("status");
         self.ask();
+        if self.rng.chance(60) {
+            let rank = self.rng.below(self.ranks());
+            self.show_banks(rank, 3);
+        }
     }
 
     /// Past the depth that counts, then to the bottom or near it.
@@ -1082,13 +1115,15 @@ impl Player {
                 3 => self.offer(),
                 _ => {
                     let command = self.command();
-                    let (cycle, _) = self.console.state.earliest(command.0, command.1, command.2);
-                    self.offer_at(command, cycle as u64);
+                    self.offer_early(command);
                 }
             }
         }
         if self.rng.chance(60) {
             self.say("back");
+        }
+        if self.rng.chance(60) {
+            self.wrong_offer();
         }
         if self.rng.chance(40) {
             self.open();
@@ -1206,7 +1241,7 @@ impl Player {
                     vec![(at, near(&mut self.rng, old[at]))]
                 }
                 9 => vec![(self.rng.pick(&[49, 63]), self.rng.pick(&[1, 128, 255]))],
-                10 => vec![(EDITION_AT, self.rng.pick(&[0, 1, 2, 3, 255]))],
+                10 => vec![(EDITION_AT, self.rng.pick(&[0, 1, 2, 3, 4, 255]))],
                 _ => {
                     let at = self.rng.between(48, 63) as usize;
                     vec![(at, self.rng.between(1, 255) as u8)]
@@ -1325,7 +1360,7 @@ impl Player {
     fn wild(&mut self) {
         let edge = |rng: &mut Rng| rng.pick(&EDGES);
         let (mut kind, mut rank, mut bank) = self.any_command();
-        let which = self.rng.between(0, 7);
+        let which = self.rng.pick(&[0, 1, 2, 3, 4, 4, 5, 6, 7]);
         if which & 1 != 0 {
             kind = edge(&mut self.rng);
         }
@@ -1722,8 +1757,9 @@ impl Player {
                 (OtherOpening, 1),
                 (SpoilOpening, 1),
                 (Columns, 3),
-                (Refreshes, 4),
+                (Refreshes, 6),
                 (Losses, 3),
+                (Banks, 4),
             ],
             Mood::SecondThoughts => &[
                 (Offer, 40),
@@ -1739,8 +1775,9 @@ impl Player {
                 (OtherOpening, 1),
                 (SpoilOpening, 1),
                 (Columns, 3),
-                (Refreshes, 4),
+                (Refreshes, 6),
                 (Losses, 3),
+                (Banks, 4),
             ],
             Mood::Deep => &[
                 (Run, 20),
@@ -1753,8 +1790,9 @@ impl Player {
                 (OtherOpening, 1),
                 (SpoilOpening, 1),
                 (Columns, 2),
-                (Refreshes, 3),
+                (Refreshes, 5),
                 (Losses, 3),
+                (Banks, 4),
             ],
             Mood::Clients => &[
                 (Offer, 50),
@@ -1772,8 +1810,9 @@ impl Player {
                 (OtherOpening, 3),
                 (SpoilOpening, 1),
                 (Columns, 3),
-                (Refreshes, 4),
+                (Refreshes, 6),
                 (Losses, 3),
+                (Banks, 4),
             ],
             Mood::TwoRanks => &[
                 (Offer, 60),
@@ -1788,8 +1827,9 @@ impl Player {
                 (OtherOpening, 1),
                 (SpoilOpening, 1),
                 (Columns, 3),
-                (Refreshes, 4),
+                (Refreshes, 6),
                 (Losses, 3),
+                (Banks, 4),
             ],
             Mood::FourActivates => &[
                 (Offer, 50),
@@ -1803,8 +1843,9 @@ impl Player {
                 (OtherOpening, 1),
                 (SpoilOpening, 1),
                 (Columns, 2),
-                (Refreshes, 3),
+                (Refreshes, 5),
                 (Losses, 3),
+                (Banks, 4),
             ],
             Mood::Limit => &[
                 (Offer, 40),
@@ -1821,8 +1862,9 @@ impl Player {
                 (OtherOpening, 2),
                 (SpoilOpening, 1),
                 (Columns, 2),
-                (Refreshes, 3),
+                (Refreshes, 5),
                 (Losses, 3),
+                (Banks, 4),
             ],
             Mood::Room => &[
                 (Offer, 20),
@@ -1839,8 +1881,9 @@ impl Player {
                 (OtherOpening, 2),
                 (SpoilOpening, 1),
                 (Columns, 2),
-                (Refreshes, 3),
+                (Refreshes, 5),
                 (Losses, 3),
+                (Banks, 4),
             ],
             Mood::Cuts => &[
                 (Offer, 40),
@@ -1859,8 +1902,9 @@ impl Player {
                 (OtherOpening, 2),
                 (SpoilOpening, 1),
                 (Columns, 2),
-                (Refreshes, 3),
+                (Refreshes, 5),
                 (Losses, 3),
+                (Banks, 4),
             ],
             Mood::Damage => &[
                 (Offer, 40),
@@ -1876,8 +1920,9 @@ impl Player {
                 (OtherOpening, 3),
                 (SpoilOpening, 1),
                 (Columns, 2),
-                (Refreshes, 3),
+                (Refreshes, 5),
                 (Losses, 3),
+                (Banks, 4),
             ],
             Mood::Malformed => &[
                 (Offer, 25),
@@ -1889,8 +1934,9 @@ impl Player {
                 (OtherOpening, 1),
                 (SpoilOpening, 1),
                 (Columns, 2),
-                (Refreshes, 3),
+                (Refreshes, 5),
                 (Losses, 3),
+                (Banks, 4),
             ],
             Mood::Wild => &[
                 (Offer, 25),
@@ -1906,8 +1952,9 @@ impl Player {
                 (OtherOpening, 2),
                 (SpoilOpening, 1),
                 (Columns, 2),
-                (Refreshes, 3),
+                (Refreshes, 5),
                 (Losses, 3),
+                (Banks, 4),
             ],
             Mood::Mixed => &[
                 (Offer, 60),
@@ -1932,8 +1979,9 @@ impl Player {
                 (OtherOpening, 3),
                 (SpoilOpening, 1),
                 (Columns, 3),
-                (Refreshes, 4),
+                (Refreshes, 6),
                 (Losses, 3),
+                (Banks, 4),
             ],
         }
     }
@@ -1970,6 +2018,7 @@ impl Player {
             Act::Columns => self.columns(),
             Act::Refreshes => self.refreshes(),
             Act::Losses => self.losses(),
+            Act::Banks => self.banks(),
             Act::Lend => self.lend(),
             Act::FillRoom => self.fill_room(),
             Act::Cut => self.cut(),
@@ -2103,7 +2152,7 @@ pub enum Bad {
     Refused(u64),
 }
 
-pub const BADS: [Bad; 13] = [
+pub const BADS: [Bad; 14] = [
     Bad::OtherByte0,
     Bad::Spare,
     Bad::OtherOpening,
@@ -2117,6 +2166,7 @@ pub const BADS: [Bad; 13] = [
     Bad::Refused(7),
     Bad::Refused(8),
     Bad::Refused(10),
+    Bad::Refused(12),
 ];
 
 /// A good journal with one record made bad in this one way, the rest behind it,
@@ -2239,19 +2289,15 @@ pub fn spoil(rng: &mut Rng, good: &[u8], way: Bad) -> Option<(Vec<u8>, usize)> {
         Bad::Refused(7) => {
             let after_last = last? + 1;
             let ranks = session?.1.ranks;
-            if rng.chance(30) {
+            let early = rng.chance(50).then(|| rng.below(ranks));
+            if let Some(mut list) = early.and_then(|rank| early_refresh(rng, &state, rank)) {
                 // Behind a precharge that is put before it.
-                let rank = rng.below(ranks);
-                let (first, (kind, bank)) = precharge_and_refresh(rng, &state, rank);
-                let mut played = state.clone();
-                played.records.push(Record::Command(first));
-                let (earliest, gap) = played.earliest(kind, rank, bank);
-                let early = earliest as u64 - 1;
-                if gap != 0 && early <= LAST_CYCLE {
-                    front.extend(command(first.kind, rank, first.bank, first.cycle));
-                    record = command(kind, rank, bank, early);
-                    return joined(front, record, good, at);
+                let last = list.pop()?;
+                for c in list {
+                    front.extend(command(c.kind, c.rank, c.bank, c.cycle));
                 }
+                record = command(last.kind, last.rank, last.bank, last.cycle);
+                return joined(front, record, good, at);
             }
             for _ in 0..40 {
                 let kind = rng.between(1, 7);
@@ -2260,6 +2306,7 @@ pub fn spoil(rng: &mut Rng, good: &[u8], way: Bad) -> Option<(Vec<u8>, usize)> {
                     _ => rng.below(16),
                 };
                 let rank = rng.below(ranks);
+                let (kind, rank, bank) = fitted(rng, &state, (kind, rank, bank));
                 let earliest = earliest(kind, rank, bank);
                 if earliest > after_last && earliest - 1 <= LAST_CYCLE {
                     record = command(kind, rank, bank, earliest - 1);
@@ -2275,6 +2322,13 @@ pub fn spoil(rng: &mut Rng, good: &[u8], way: Bad) -> Option<(Vec<u8>, usize)> {
             for _ in 0..state.depth() {
                 front.extend_from_slice(&record);
             }
+        }
+        Bad::Refused(12) => {
+            let ranks = session.filter(|_| state.judges_banks())?.1.ranks;
+            let rank = rng.below(ranks);
+            let place = wrong_place(rng, &state, rank)?;
+            let cycle = wrong_cycle(rng, &state, place)?;
+            record = command(place.0, rank, place.2, cycle);
         }
         Bad::Refused(_) => {
             let opening = session?.1;
@@ -2485,7 +2539,7 @@ mod tests {
         }
         let calls: [(&str, &[u64]); 6] = [
             ("open", &[0, 9, 10]),
-            ("offer", &[0, 1, 2, 3, 4, 5, 6, 7, 9]),
+            ("offer", &[0, 1, 2, 3, 4, 5, 6, 7, 9, 12]),
             ("ask", &[0, 1, 2, 3, 4]),
             ("back", &[0, 1, 8, 9]),
             ("status", &[0, 1]),
@@ -2517,7 +2571,8 @@ mod tests {
         let mut new_pairs = BTreeSet::new();
         for seed in 0..39 {
             let good = script(seed, 200).good;
-            for (i, way) in BADS.iter().enumerate() {
+            // Twice, so that sessions of every edition are met.
+            for (i, way) in (0..2).flat_map(|_| BADS.iter().enumerate()) {
                 let Some((journal, at)) = spoil(&mut rng, &good, *way) else {
                     continue;
                 };

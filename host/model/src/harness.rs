@@ -350,7 +350,7 @@ fn parted(said: &[u8]) -> (Vec<u8>, String) {
     (err, summary)
 }
 
-/// Plays lines over the file to the end, and holds all to the model. Often the file is one from before requests 2026-04 and 2026-05.
+/// Plays lines over the file to the end, and holds all to the model. Often the file is one from before requests 2026-04, 2026-05 and 2026-07.
 pub fn play_on(program: &Program, path: &Path, rng: &mut Rng, count: usize, about: &str) {
     let found = fs::read(path).unwrap();
     let file = from_before(rng, &found);

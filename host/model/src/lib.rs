@@ -1,4 +1,4 @@
-//! An independent program for document 01, requests 2026-01, 2026-02 and 2026-04 to 2026-06 and the bench console, held against the product from outside: a naive model, the listing,
+//! An independent program for document 01, requests 2026-01, 2026-02 and 2026-04 to 2026-07 and the bench console, held against the product from outside: a naive model, the listing,
 //! the console over the model, a maker of scripts, and what runs the programs.
 
 pub mod burst_calls;

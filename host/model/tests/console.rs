@@ -244,7 +244,7 @@ fn the_whole_memory_is_room(programs: &Programs) {
         input.push_str(&format!("open 1 2 2 {client} {gaps}\n"));
     }
     for cycle in 0..140 {
-        input.push_str(&format!("offer RD 1 3 {cycle}\n"));
+        input.push_str(&format!("offer PREPB 1 3 {cycle}\n"));
     }
     input.push_str("back\nstatus\nask ACT 0 0\noffer ACT 0 0 135\noffer ACT 0 0 136\n");
     for settings in ["1 1 2", "1 1 1", "3 1 2"] {
@@ -540,10 +540,11 @@ fn odd_bytes_are_listed_as_the_model_does(programs: &Programs) {
             compare_listing(&program, &vec![first; length], "one byte again and again");
         }
     }
-    for (mode, kind) in (0..5 * 9).map(|n| (n / 9, n % 9)) {
-        // One opening in each mode, one command of each number, nothing else.
+    for (edition, mode, kind) in (0..4 * 5 * 9).map(|n| (n / 45, n / 9 % 5, n % 9)) {
+        // One opening in each mode and edition, one command of each number, nothing else.
         let mut journal = vec![0; 128];
         journal[..4].copy_from_slice(&[1, 1, 1, mode]);
+        journal[48] = edition;
         journal[64..66].copy_from_slice(&[2, kind]);
         compare_listing(&program, &journal, "one command");
     }

@@ -41,6 +41,7 @@ fn older(count: usize) -> Vec<u8> {
     let mut model = FileConsole::over(b"");
     model.step(opening_a());
     model.file[3] = 1;
+    model.file[48] = 0;
     [model.file, loose(count)].concat()
 }
 

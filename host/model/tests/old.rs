@@ -22,16 +22,17 @@ fn kept(name: &str) -> Vec<u8> {
     fs::read(&path).unwrap_or_else(|e| panic!("{}: {e}", path.display()))
 }
 
-/// The journals' names.
-fn journals() -> Vec<String> {
-    let names = fs::read_dir(old("")).unwrap();
-    let names = names.map(|entry| entry.unwrap().file_name().into_string().unwrap());
-    let mut names: Vec<String> = names
-        .filter_map(|name| Some(name.strip_suffix(".journal")?.to_string()))
-        .collect();
-    names.sort();
-    assert!(!names.is_empty());
-    names
+/// The journals that are kept, by the edition that they are of. Each has its four files, and no other stands beside them.
+const KEPT: [&str; 2] = ["edition-0", "edition-1"];
+
+fn journals() -> [&'static str; KEPT.len()] {
+    let files = fs::read_dir(old("")).unwrap();
+    let files = files.map(|entry| entry.unwrap().file_name().into_string().unwrap());
+    let mut files: Vec<String> = files.collect();
+    files.sort();
+    let due = KEPT.map(|name| ["journal", "list", "out", "trace"].map(|e| format!("{name}.{e}")));
+    assert_eq!(files, due.concat());
+    KEPT
 }
 
 fn text(bytes: Vec<u8>) -> String {

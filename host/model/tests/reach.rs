@@ -3,7 +3,7 @@
 
 use rossinhiu_model::console::Console;
 use rossinhiu_model::harness::top;
-use rossinhiu_model::model::LAST_CYCLE;
+use rossinhiu_model::model::{State, LAST_CYCLE, NAMES};
 use std::collections::BTreeSet;
 use std::fs;
 use std::path::Path;
@@ -43,7 +43,10 @@ fn every_answer_is_reached() {
 
     let calls: [(&str, &[&str]); 7] = [
         ("open", &["0", "9", "10"]),
-        ("offer", &["0", "1", "2", "3", "4", "5", "6", "7", "9"]),
+        (
+            "offer",
+            &["0", "1", "2", "3", "4", "5", "6", "7", "9", "12"],
+        ),
         ("ask", &["0", "1", "2", "3", "4"]),
         ("back", &["0", "1", "8", "9"]),
         ("status", &["0", "1"]),
@@ -97,8 +100,8 @@ fn every_end_of_a_burst_is_reached() {
         told.map(|l| l.split(' ').nth(1).unwrap().parse().unwrap())
             .collect()
     };
-    assert_eq!(ends(false), BTreeSet::from([0, 1, 2, 3, 4, 5, 7, 9]));
-    assert_eq!(ends(true), BTreeSet::from([0, 2, 3, 4, 5, 6, 7, 9]));
+    assert_eq!(ends(false), BTreeSet::from([0, 1, 2, 3, 4, 5, 7, 9, 12]));
+    assert_eq!(ends(true), BTreeSet::from([0, 2, 3, 4, 5, 6, 7, 9, 12]));
     // More than can be taken back, in one line.
     assert!(text.contains("\nburst 66 0 0 0 0\n"));
 }
@@ -127,7 +130,7 @@ fn every_loss_is_reached() {
         assert!(missing.is_empty(), "{missing:?}");
     }
     for call in [
-        "offer 0", "ask 0", "burst 0", "offer 6", "offer 9", "burst 9",
+        "offer 0", "ask 0", "burst 0", "offer 6", "offer 9", "burst 9", "offer 12", "burst 12",
     ] {
         assert!(seen.contains(&format!("{call}: no gap")), "{call}");
     }
@@ -177,4 +180,49 @@ fn every_mode_is_reached() {
     let missing: Vec<&String> = due.iter().filter(|key| !seen.contains(*key)).collect();
     assert!(missing.is_empty(), "{missing:?}");
     assert!(!seen.contains("mode 1: open 0"));
+}
+
+/// What a line shows of banks: a command that its bank can't do, and what came of it in a session of this edition.
+fn of_a_bank(state: &State, line: &str, answer: &str) -> Option<String> {
+    let (_, opening) = state.session()?;
+    let words: Vec<&str> = line.split_whitespace().collect();
+    let ["offer", name, rank, bank, _] = words[..] else {
+        return None;
+    };
+    let kind = 1 + NAMES.iter().position(|n| *n == name)? as u64;
+    let (rank, bank) = (rank.parse().ok()?, bank.parse().ok()?);
+    let number = answer.split(' ').nth(1)?;
+    let is_there = ["0", "6", "7", "9", "12"].contains(&number);
+    let is_wrong = is_there && !state.bank_can(kind, rank, bank);
+    is_wrong.then(|| format!("edition {}: {name} {number}", opening.edition))
+}
+
+/// Every kind that a bank can refuse, in edition 2 and before it; 6 before 12; a REFAB with each bank open alone.
+#[test]
+fn every_bank_state_is_reached() {
+    let mut console = Console::new();
+    let mut seen = BTreeSet::new();
+    for line in file("stdin").split_inclusive(|b| *b == b'\n') {
+        let before = console.state.clone();
+        let answer = String::from_utf8(console.feed(line)).expect("answers are plain text");
+        let sent = String::from_utf8_lossy(line);
+        seen.extend(of_a_bank(&before, &sent, &answer));
+        let words: Vec<&str> = sent.split_whitespace().collect();
+        if let ["burst", "ACT", "0", bank, _, "REFAB", "0", "0", _] = words[..] {
+            seen.insert(format!("bank {bank}: {}", answer.trim_end()));
+        }
+    }
+    let mut due: Vec<String> = (0..16)
+        .map(|bank| format!("bank {bank}: burst 1 12 0 0 0"))
+        .collect();
+    for kind in ["ACT", "RD", "WR", "REFPB", "REFAB"] {
+        due.push(format!("edition 2: {kind} 12"));
+    }
+    due.extend(["edition 2: ACT 6", "edition 2: WR 6"].map(String::from));
+    for kind in ["ACT", "RD", "WR"] {
+        due.push(format!("edition 1: {kind} 0"));
+    }
+    due.extend(["edition 0: ACT 0", "edition 0: RD 0"].map(String::from));
+    let missing: Vec<&String> = due.iter().filter(|key| !seen.contains(*key)).collect();
+    assert!(missing.is_empty(), "{missing:?}");
 }

@@ -251,11 +251,11 @@ fn the_mode_of_a_stored_opening(programs: &Programs) {
     let path = folder.at("journal");
     let refused = opening_a().replacen("4 1 0", "1 1 1", 1);
     let input =
-        format!("offer RD 0 0 10\nask RD 0 1\nask RD 0 2\nask RD 0 4\n{refused}\nback\nstatus\n");
+        format!("offer ACT 0 0 10\noffer RD 0 0 28\nask RD 0 1\nask RD 0 2\nask RD 0 4\n{refused}\nback\nstatus\n");
     for (mode, asks) in [
-        (0, Some(["18 5 0", "18 5 0", "18 5 0"])),
-        (1, Some(["18 6 0", "16 7 0", "16 7 0"])),
-        (2, Some(["18 6 0", "18 6 0", "16 7 0"])),
+        (0, Some(["36 5 0", "36 5 0", "36 5 0"])),
+        (1, Some(["36 6 0", "34 7 0", "34 7 0"])),
+        (2, Some(["36 6 0", "36 6 0", "34 7 0"])),
         (3, None),
         (255, None),
     ] {
@@ -274,10 +274,13 @@ fn the_mode_of_a_stored_opening(programs: &Programs) {
             continue;
         };
         let expected = format!(
-            "restore 0 0\noffer 0 10 0 0\nask 0 {two}\nask 0 {four}\nask 0 {far}\nopen 10\nback 0\nstatus 0 7 0 0 0 0 3\n"
+            "restore 0 0\noffer 0 10 0 0\noffer 0 28 0 0\nask 0 {two}\nask 0 {four}\nask 0 {far}\nopen 10\nback 0\nstatus 0 7 0 1 1 10 4\n"
         );
         assert_eq!(ran.text(), expected, "{mode}");
-        assert_eq!(listed.text(), "0 open 7\n1 RD 0 0 10\n2 back\nend 3 0\n");
+        assert_eq!(
+            listed.text(),
+            "0 open 7\n1 ACT 0 0 10\n2 RD 0 0 28\n3 back\nend 4 0\n"
+        );
     }
 }
 

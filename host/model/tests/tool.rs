@@ -445,6 +445,8 @@ fn long_line(i: u64, cycle: &mut u64) -> String {
     }
     *cycle += 12;
     match i % 8 {
+        // The opening stood in place of the activate.
+        _ if i % 400 == 1 => format!("offer ACT 0 {bank} {cycle}"),
         0 | 4 => format!("offer ACT 0 {bank} {cycle}"),
         1 | 5 => format!("offer RD 0 {bank} {cycle}"),
         2 => "back".to_string(),

@@ -201,7 +201,7 @@ fn across_the_parts() {
     for (client, count) in [(0, 1_000), (2, 23), (0, 1), (2, 1_022), (0, 3), (2, 1)] {
         model.step(format!("open 1 1 0 {client} {gaps}"));
         for cycle in 0..count {
-            model.step(format!("offer RD 0 0 {cycle}"));
+            model.step(format!("offer PREPB 0 0 {cycle}"));
         }
     }
     assert_eq!(model.file.len(), RECORD * 2_056);

@@ -6,9 +6,26 @@ use crate::{from_start, room_behind, source_offers, source_questions};
 use crate::{Ask, Offer, Table, LIBRARY, OFFERS, RANKS, SOURCE, TWIN};
 use rossinhiu::checker;
 use rossinhiu::ffi::{Command, Numbers, Session};
-use rossinhiu_model::model::NAMES;
+use rossinhiu_model::model::{NAMES, RECORD};
 use rossinhiu_speed::{before, twin};
-use std::cell::RefCell;
+
+/// The same where the earlier commit stands: the newest edition that it knows.
+const KNOWN: u8 = 1;
+
+fn known(session: &Session) -> Session {
+    let mut session = *session;
+    let edition = session.terms.opening.edition;
+    session.terms.opening.edition = edition.min(KNOWN);
+    session
+}
+
+fn known_journal(bytes: &[u8]) -> Vec<u8> {
+    let mut bytes = bytes.to_vec();
+    for record in bytes.chunks_exact_mut(RECORD).filter(|r| r[0] == 1) {
+        record[48] = record[48].min(KNOWN);
+    }
+    bytes
+}
 
 const BEFORE: &str = "before";
 const CHANGE: Table = Table {
@@ -33,12 +50,11 @@ fn asked(kind: u64) -> Vec<Command> {
 
 fn compare_questions(title: &str, trace: &[Command], asked: &[Command]) {
     let (state, design) = (played_out(trace), design_with(trace));
-    let old = before::Session::of(&state);
+    let old = known(&state);
     for c in asked {
         let told = checker::earliest(&state, c.kind, c.rank, c.bank);
+        assert_eq!(told, before::earliest(&old, c.kind, c.rank, c.bank));
         assert_eq!(told, twin::earliest(&state, c.kind, c.rank, c.bank));
-        let less = Numbers { loss: 0, ..told };
-        assert_eq!(less, before::earliest(&old, c.kind, c.rank, c.bank));
     }
     let run = |ask: Ask| questions(&state, asked, ask);
     CHANGE.compare(
@@ -55,14 +71,15 @@ fn compare_questions(title: &str, trace: &[Command], asked: &[Command]) {
 
 fn compare_offers(trace: &[Command]) {
     let (start, room) = (opened(), room_behind(&opened()));
-    let old = before::Session::of(&start);
     let run = |offer: Offer| offers(&start, &room, trace, offer, 0);
     CHANGE.compare(
         "accepted offer",
         201,
         vec![
             contender(LIBRARY, || run(checker::offer)),
-            contender(BEFORE, || offers(&old, &room, trace, before::offer, 0)),
+            contender(BEFORE, || {
+                offers(&known(&start), &room, trace, before::offer, 0)
+            }),
             contender(TWIN, || run(twin::offer)),
             contender(SOURCE, || source_offers(&[], trace)),
         ],
@@ -71,37 +88,34 @@ fn compare_offers(trace: &[Command]) {
 
 fn compare_restores() {
     let bytes = journal(100_000, 97);
+    let old = known_journal(&bytes);
     CHANGE.compare(
         "restore, a record of 100,000",
         31,
         vec![
             contender(LIBRARY, || restored(&bytes, checker::restore)),
-            contender(BEFORE, || restored(&bytes, before::restore)),
+            contender(BEFORE, || restored(&old, before::restore)),
             contender(TWIN, || restored(&bytes, twin::restore)),
         ],
     );
 }
 
-type Burst<S> = fn(&mut S, &mut [u8], &[Command]) -> (u64, Numbers);
-
-/// A round of one burst, for each command.
-fn bursts<S: Copy>(start: &S, room: &RefCell<Vec<u8>>, trace: &[Command], burst: Burst<S>) -> f64 {
-    from_start(start, &mut room.borrow_mut(), trace.len(), |state, room| {
-        assert_all(burst(state, room, trace), trace.len());
-    })
-}
-
 fn compare_bursts(trace: &[Command]) {
+    type Burst = fn(&mut Session, &mut [u8], &[Command]) -> (u64, Numbers);
     let (start, room) = (opened(), room_behind(&opened()));
-    let old = before::Session::of(&start);
-    let run = |burst: Burst<Session>| bursts(&start, &room, trace, burst);
+    let run = |start: &Session, burst: Burst| {
+        let room = &mut room.borrow_mut();
+        from_start(start, room, trace.len(), |state, room| {
+            assert_all(burst(state, room, trace), trace.len());
+        })
+    };
     CHANGE.compare(
         "a command of a burst of 4,096, as structs",
         201,
         vec![
-            contender(LIBRARY, || run(checker::offer_all)),
-            contender(BEFORE, || bursts(&old, &room, trace, before::offer_all)),
-            contender(TWIN, || run(twin::offer_all)),
+            contender(LIBRARY, || run(&start, checker::offer_all)),
+            contender(BEFORE, || run(&known(&start), before::offer_all)),
+            contender(TWIN, || run(&start, twin::offer_all)),
             contender(SOURCE, || source_offers(&[], trace)),
         ],
     );

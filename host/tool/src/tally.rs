@@ -16,7 +16,7 @@ pub const REASONS: [&str; 15] = [
     "no room for a record",
     "bad settings",
     "bad record",
-    "no such number",
+    "wrong bank state",
     "no such tCK",
     "a time or a gap out of range",
 ];

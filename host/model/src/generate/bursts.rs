@@ -2,7 +2,7 @@
 
 use super::{padded, Mood, Player, JOURNAL, LIVE_MODES};
 use crate::burst_calls::{
-    activates_for, any_place, burst_line, fullest_line, list_for, malformed_burst_line,
+    activates_for, any_number, any_place, burst_line, fullest_line, list_for, malformed_burst_line,
     refreshes_for, Refusal,
 };
 use crate::console::LONGEST_LINE;
@@ -17,9 +17,9 @@ impl Player {
         let percent = match self.mood {
             // Its acts are long.
             Mood::Deep => 60,
-            Mood::Room | Mood::Wild | Mood::Mixed | Mood::FourActivates => 8,
-            Mood::Malformed => 6,
-            _ => 4,
+            Mood::Room | Mood::Wild | Mood::Mixed | Mood::FourActivates => 10,
+            Mood::Malformed => 8,
+            _ => 6,
         };
         if self.forms.bursts && self.rng.chance(percent) {
             self.burst_act();
@@ -30,20 +30,21 @@ impl Player {
         if self.mood == Mood::FourActivates && self.rng.chance(40) {
             return self.window_burst();
         }
-        match self.rng.below(35) {
-            0..=9 => self.refused_burst(),
-            10 | 11 => self.empty_burst(),
-            12 => self.burst_of_one(),
-            13..=15 => self.long_burst(),
-            16 => self.burst_to_the_bottom(),
-            17..=19 => self.burst_without_room(),
-            20 => self.burst_behind_a_back(),
-            21 | 22 => self.burst_and_restore(),
-            23 => self.full_line(),
-            24 | 25 => self.fullest_burst(),
-            26 => self.window_burst(),
-            27..=29 => self.refresh_burst(),
-            30..=32 => self.burst_at_a_loss(),
+        match self.rng.below(42) {
+            0..=11 => self.refused_burst(),
+            12..=14 => self.empty_burst(),
+            15 => self.burst_of_one(),
+            16..=18 => self.long_burst(),
+            19 => self.burst_to_the_bottom(),
+            20..=22 => self.burst_without_room(),
+            23 => self.burst_behind_a_back(),
+            24 | 25 => self.burst_and_restore(),
+            26 | 27 => self.full_line(),
+            28 | 29 => self.fullest_burst(),
+            30 | 31 => self.window_burst(),
+            32..=34 => self.refresh_burst(),
+            35..=37 => self.burst_at_a_loss(),
+            38 | 39 => self.bank_burst(),
             _ => self.malformed_burst(),
         }
     }
@@ -98,7 +99,10 @@ impl Player {
 
     /// A refusal with each number, at the first place, the last, and between. Too early is said of twenty gaps, so it comes more often.
     fn refused_burst(&mut self) {
-        let number = self.rng.pick(&[2, 3, 4, 5, 6, 7, 7, 7]);
+        let number = match self.rng.chance(25) {
+            true => 7,
+            false => any_number(&mut self.rng, &self.console.state),
+        };
         let length = match self.rng.below(10) {
             // Room for the window of four activates before it.
             0..=3 => self.rng.between(6, 20) as usize,
@@ -120,7 +124,7 @@ impl Player {
     }
 
     /// Precharges, each with a refresh of the other kind behind it.
-    fn refresh_burst(&mut self) {
+    pub(super) fn refresh_burst(&mut self) {
         let length = self.rng.between(2, 12) as usize;
         let rank = self.rng.below(self.ranks());
         let list = refreshes_for(&mut self.rng, &self.console.state, rank, length);
@@ -165,12 +169,13 @@ impl Player {
     /// Room that runs out in the middle: what came before stays.
     fn burst_without_room(&mut self) {
         let length = self.rng.between(1, 20);
-        let more = self.rng.below(length + 1);
+        let any = self.rng.below(length + 1);
+        let more = self.rng.pick(&[any, any, any, length - 1]);
         let loose = self.rng.pick(&[0, 0, 1, 63]);
         let bytes = 64 * (self.count() + more) + loose;
         self.say(&format!("lend {bytes}"));
         // Often a refusal just where the room ends, or one before or behind it.
-        let number = self.rng.between(2, 7);
+        let number = any_number(&mut self.rng, &self.console.state);
         let near = self.rng.pick(&[more, more + 1, more.saturating_sub(1)]) as usize;
         let refusal = self.rng.chance(40).then_some((near, number));
         let list = self.list(length as usize, refusal);
@@ -447,7 +452,7 @@ mod tests {
         .map(|(key, least)| (key.to_string(), least))
         .to_vec();
         for place in ["first", "between", "last"] {
-            due.extend((2..=7).map(|number| (format!("{number} {place}"), 5)));
+            due.extend([2, 3, 4, 5, 6, 7, 12].map(|number| (format!("{number} {place}"), 5)));
         }
         due.extend(MOODS.map(|mood| (format!("{mood:?}"), 20)));
         due

@@ -1,9 +1,10 @@
 //! Sessions of every mode and edition: requests 2026-04 and 2026-05. Nobody opens in mode 1 or in an older edition, so such
 //! sessions are made of others: bytes of an opening record are poked, and what is good then is restored.
 
-use super::{Player, Rng};
+use super::{banks_of, closing, Player, Rng};
 use crate::model::{
-    Command, Record, State, NEWEST_EDITION, PREAB, PREPB, RD, RECORD, REFAB, REFPB, WR,
+    Command, Record, State, ACT, LAST_CYCLE, NEWEST_EDITION, PREAB, PREPB, RD, RECORD, REFAB,
+    REFPB, WR,
 };
 
 /// The modes that a live opening takes.
@@ -50,9 +51,9 @@ pub fn in_mode(journal: &[u8], mode: u8) -> Option<(usize, usize)> {
 pub fn older(rng: &mut Rng) -> Vec<Change> {
     let mode = (MODE_AT, 1);
     let edition = (EDITION_AT, rng.below(NEWEST_EDITION) as u8);
-    match rng.below(10) {
-        0..=2 => vec![mode],
-        3 | 4 => vec![mode, edition],
+    match rng.below(12) {
+        0 | 1 => vec![mode],
+        2..=4 => vec![mode, edition],
         _ => vec![edition],
     }
 }
@@ -77,11 +78,18 @@ pub fn bad_opening(rng: &mut Rng) -> Change {
 }
 
 /// A precharge of a rank, and the kind and bank of a refresh that waits for tRPab behind it from edition 1 on. Mostly no other
-/// gap holds that one back for longer.
+/// gap holds that one back for longer. Where banks are looked at, the refresh is one that they can do then.
 pub fn precharge_and_refresh(rng: &mut Rng, state: &State, rank: u64) -> (Command, (u64, u64)) {
-    let bank = rng.below(16);
+    let any = rng.below(16);
+    let open = banks_of(state, rank, true);
+    let bank = match open.first().filter(|_| rng.chance(70)) {
+        Some(_) => rng.pick(&open),
+        None => any,
+    };
     let pairs = [((PREPB, bank), (REFAB, 0)), ((PREAB, 0), (REFPB, bank))];
-    let (first, refresh) = rng.pick(&pairs);
+    let closes_all = open.iter().all(|other| *other == bank);
+    let is_free = closes_all || !state.judges_banks();
+    let (first, refresh) = rng.pick(if is_free { &pairs } else { &pairs[1..] });
     let earliest = |(kind, bank)| state.earliest(kind, rank, bank).0 as u64;
     let mut cycle = earliest(first);
     if rng.chance(75) {
@@ -95,6 +103,29 @@ pub fn precharge_and_refresh(rng: &mut Rng, state: &State, rank: u64) -> (Comman
         cycle,
     };
     (precharge, refresh)
+}
+
+/// A refresh of a rank that is one cycle too early, behind a precharge and, where banks are looked at, what closes others; none if no gap holds
+/// it back or it would be beyond the limit.
+pub fn early_refresh(rng: &mut Rng, state: &State, rank: u64) -> Option<Vec<Command>> {
+    let open = banks_of(state, rank, true);
+    let mut list = closing(state, rank, open.first().copied());
+    let mut played = state.clone();
+    played
+        .records
+        .extend(list.iter().copied().map(Record::Command));
+    let (first, (kind, bank)) = precharge_and_refresh(rng, &played, rank);
+    played.records.push(Record::Command(first));
+    let (earliest, gap) = played.earliest(kind, rank, bank);
+    let cycle = earliest as u64 - 1;
+    let early = Command {
+        kind,
+        rank,
+        bank,
+        cycle,
+    };
+    list.extend([first, early]);
+    (gap != 0 && cycle <= LAST_CYCLE).then_some(list)
 }
 
 impl Player {
@@ -197,11 +228,15 @@ impl Player {
     pub(super) fn columns(&mut self) {
         let (kind, rank) = (self.rng.pick(&[RD, WR, WR]), self.rng.below(self.ranks()));
         let bank = self.habits.bank(&mut self.rng, kind);
+        let pair_beside = self.rng.pick(&[2, 3]);
+        let far = self.rng.between(4, 15);
+        let second = self.rng.pick(&[1, pair_beside, far, far]);
+        for bank in [bank ^ second, bank] {
+            self.open_for_columns(rank, bank);
+        }
         let first = (kind, rank, bank);
         let (earliest, _) = self.earliest(first);
         self.offer_at(first, earliest);
-        let pair_beside = self.rng.pick(&[2, 3]);
-        let far = self.rng.between(4, 15);
         for away in [1, pair_beside, far, 0] {
             let kind = match kind {
                 RD => RD,
@@ -211,11 +246,27 @@ impl Player {
         }
     }
 
-    /// Asked for, or offered one cycle too early.
+    /// Where banks are looked at, it is open then.
+    fn open_for_columns(&mut self, rank: u64, bank: u64) {
+        let state = &self.console.state;
+        if state.judges_banks() && state.bank_can(ACT, rank, bank) {
+            let (earliest, _) = self.earliest((ACT, rank, bank));
+            self.offer_at((ACT, rank, bank), earliest);
+        }
+    }
+
+    /// Asked for, or offered one cycle too early: mostly where the bank can do it.
     fn column(&mut self, kind: u64, rank: u64, bank: u64) {
         let (earliest, gap) = self.earliest((kind, rank, bank));
+        let state = &self.console.state;
+        let percent = match state.judges_banks() {
+            true if state.bank_can(kind, rank, bank) => 60,
+            true => 5,
+            false => 25,
+        };
+        let is_early = gap != 0 && self.rng.chance(percent);
         match self.rng.below(4) {
-            0 if gap != 0 => {
+            _ if is_early => {
                 self.offer_at((kind, rank, bank), earliest - 1);
             }
             1 => {}
@@ -230,6 +281,10 @@ impl Player {
     /// is taken back before that, or has another one behind it.
     pub(super) fn refreshes(&mut self) {
         let rank = self.rng.below(self.ranks());
+        if self.rng.chance(60) {
+            let open = banks_of(&self.console.state, rank, true);
+            self.close_banks(rank, open.first().copied());
+        }
         let (first, (kind, bank)) = precharge_and_refresh(&mut self.rng, &self.console.state, rank);
         self.offer_at((first.kind, rank, first.bank), first.cycle);
         if first.kind == PREPB && self.rng.chance(25) {
@@ -251,13 +306,16 @@ impl Player {
         if self.rng.chance(75) {
             self.offer_at(refresh, earliest);
         }
+        if self.forms.bursts && self.rng.chance(15) {
+            self.refresh_burst();
+        }
     }
 
     /// Offered before the cycle that a gap asks for, by one or by all that it asks; or asked for.
     fn early_refresh(&mut self, refresh: (u64, u64, u64)) {
         let (earliest, gap) = self.earliest(refresh);
         let next = self.last() + 1;
-        if gap != 0 && self.rng.chance(70) {
+        if gap != 0 && self.rng.chance(60) {
             let cycle = self.rng.pick(&[earliest - 1, earliest - 1, next]);
             self.offer_at(refresh, cycle);
         } else {
@@ -294,7 +352,7 @@ mod tests {
     use std::collections::BTreeMap;
     use std::sync::OnceLock;
 
-    const SCRIPTS: u64 = 104;
+    const SCRIPTS: u64 = 156;
     /// The gaps that the modes have not in common.
     const COLUMN_GAPS: [u64; 6] = [5, 6, 7, 10, 11, 12];
 
@@ -415,6 +473,10 @@ mod tests {
                 return seen;
             };
             seen.extend(askers(judged, &asked, (cycle, gap)));
+            seen.push(format!(
+                "edition {edition}: {} {number} by gap {gap}",
+                read.call
+            ));
         }
         let pair = new_pair(judged, asked.kind, asked.rank, asked.bank);
         seen.extend(pair.map(|pair| format!("{session}: {pair} by {} {number}", read.call)));
@@ -492,7 +554,7 @@ mod tests {
         "restore 0",
     ];
 
-    /// What a hundred scripts reach, and how often at least.
+    /// What so many scripts reach, and how often at least.
     fn due() -> Vec<(String, u64)> {
         let mut due = vec![
             ("open 0 in mode 0".to_string(), 200),
@@ -513,9 +575,24 @@ mod tests {
         }
         for mode in 0..3 {
             for pair in ["PREPB to REFAB", "PREAB to REFPB"] {
-                due.push((format!("edition 1, mode {mode}: {pair} by burst 7"), 3));
-                due.push((format!("edition 1, mode {mode}: {pair} by offer 0"), 25));
+                for edition in [1, 2] {
+                    let session = format!("edition {edition}, mode {mode}");
+                    due.push((format!("{session}: {pair} by burst 7"), 3));
+                    due.push((format!("{session}: {pair} by offer 0"), 25));
+                }
             }
+        }
+        due.extend(gaps_due());
+        due
+    }
+
+    /// Every gap in every edition, and the columns' gaps by how banks lie to one another.
+    fn gaps_due() -> Vec<(String, u64)> {
+        let mut due = Vec::new();
+        // Every gap holds back commands that their banks can do, too.
+        for (edition, gap) in (0..EDITIONS).flat_map(|e| (1..=20).map(move |gap| (e, gap))) {
+            due.push((format!("edition {edition}: offer 7 by gap {gap}"), 5));
+            due.push((format!("edition {edition}: ask 0 by gap {gap}"), 10));
         }
         for lie in ["same bank", "same two", "same four", "far"] {
             for columns in [[5, 6, 7], [10, 11, 12]] {
@@ -550,7 +627,7 @@ mod tests {
             .collect();
         assert!(missing.is_empty(), "{missing:?}\n{seen:?}");
         let all: usize = calls.iter().flatten().sum();
-        assert!(calls.iter().flatten().all(|n| 10 * n >= all), "{calls:?}");
+        assert!(calls.iter().flatten().all(|n| 15 * n >= all), "{calls:?}");
         let least = scripts_with.iter().flatten().min();
         assert!(least.is_some_and(|n| *n >= 40), "{scripts_with:?}");
     }
@@ -737,7 +814,7 @@ mod tests {
         })
     }
 
-    /// Each wrong program is found by many of a hundred scripts, and the right one by none.
+    /// Each wrong program is found by many scripts, and the right one by none.
     #[test]
     fn scripts_tell_wrong_sessions() {
         let scripts = scripts();
@@ -754,7 +831,7 @@ mod tests {
         let (mut whole, mut cut) = (0, 0);
         for seed in 0..39 {
             let good = script(seed, 300).good;
-            for (mode, edition) in (0..15).map(|n| (n / 3, n % 3)) {
+            for (mode, edition) in (0..20).map(|n| (n / 4, n % 4)) {
                 let found = reopened(&good, &[(MODE_AT, mode), (EDITION_AT, edition)]);
                 let is_open = State::restore(&good).2.session().is_some();
                 let is_known = u64::from(edition) <= NEWEST_EDITION;
@@ -808,9 +885,9 @@ mod tests {
             assert_eq!(State::restore(&record).0, 11);
             *seen.entry(format!("bad: byte {at}")).or_default() += 1;
         }
-        // Three older ones of an opening in mode 0, every mode and edition, two bad bytes.
+        // Five older ones of an opening in mode 0, every mode and edition, two bad bytes.
         assert!(
-            seen.len() == 3 + 6 + 2 && seen.values().all(|n| *n >= 20),
+            seen.len() == 5 + 9 + 2 && seen.values().all(|n| *n >= 20),
             "{seen:?}"
         );
     }

@@ -60,7 +60,13 @@ fn write_trace(path: &Path, lines: u64, only_accepted: bool) {
     for i in 0..lines {
         cycle = if i % 400 == 0 { 0 } else { cycle + 12 };
         let bank = i / 4 % 16;
-        let line = match i % 4 {
+        // Behind an opening the first bank is opened a line later.
+        let step = match i % 400 {
+            1 => 0,
+            2 => 1,
+            _ => i % 4,
+        };
+        let line = match step {
             _ if i % 400 == 0 => opening.clone(),
             0 => format!("offer ACT 0 {bank} {cycle}"),
             1 => format!("offer RD 0 {bank} {cycle}"),
