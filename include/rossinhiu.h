@@ -21,7 +21,7 @@
  * read (and, if the pointer is not const, written), and they are nobody else's during the call. Where the size is 0 the pointer
  * may be anything, NULL too.
  *
- * The state is 4,120 bytes, so give a thread that calls at least 64 KiB of stack.
+ * The state is 4,168 bytes, so give a thread that calls at least 64 KiB of stack.
  */
 #ifndef ROSSINHIU_H
 #define ROSSINHIU_H
@@ -34,7 +34,7 @@ extern "C" {
 #endif
 
 /* The number of the layout of the structs below. Each function is exported under its name and this number. */
-#define ROSSINHIU_AS(name) __asm__(name "_4")
+#define ROSSINHIU_AS(name) __asm__(name "_5")
 
 /* Bytes of a record, and the most records that a journal can have. */
 #define ROSSINHIU_RECORD_SIZE 64
@@ -65,7 +65,7 @@ extern "C" {
 #define ROSSINHIU_NO_ROOM 9         /* no room for a record, or a stored journal too long */
 #define ROSSINHIU_BAD_SETTINGS 10   /* ratio not 1, 2, 4; ranks not 1, 2; mode not 0, 2 */
 #define ROSSINHIU_BAD_RECORD 11     /* bad record in a restore */
-#define ROSSINHIU_WRONG_STATE 12    /* the bank can't do it: open or closed, as it is now */
+#define ROSSINHIU_WRONG_STATE 12    /* wrong bank state: open or closed, as the bank is now */
 #define ROSSINHIU_BAD_TCK 13        /* tCK not 1 to 1,000,000 ps */
 #define ROSSINHIU_BAD_TIME 14       /* a time above 4,294,967,295 ps, or a gap above 65,535 */
 
@@ -74,7 +74,8 @@ extern "C" {
  * known, and for a debugger. A stamp is a controller cycle plus 1, and 0 where there is none.
  */
 struct rossinhiu_entry {
-    uint64_t slot;
+    uint32_t slot;
+    uint32_t open_banks; /* before the command that is taken back */
     uint64_t earlier;
     uint64_t pushed_out;
     uint64_t latest;
@@ -96,6 +97,7 @@ struct rossinhiu_progress {
     uint64_t survivors;
     uint64_t depth;
     uint64_t records; /* the records in the journal: the next one goes to byte 64 * records */
+    uint32_t open_banks; /* a bit for each: bank b of rank r is bit 16 * r + b */
 };
 
 /* What the client gave. */
@@ -164,9 +166,9 @@ struct rossinhiu_opened rossinhiu_open(struct rossinhiu_session session, uint8_t
  * Offers a command at a controller cycle, and writes its record if it is accepted. `bank` is 0 with PREAB and REFAB.
  * From edition 2 on ACT and REFPB need a closed bank, RD and WR an open one, REFAB all of its rank closed: 12 else. ACT opens its bank,
  * PREPB closes its own, PREAB all of the rank; precharging a closed bank is allowed.
- * number: the first that holds of 1, 2, 3, 4, 5, 6, 12, 7, 9, in this order; else 0. With 0, `cycle` is the cycle offered, `gap` and `loss` are 0. With
- * 7, `cycle` is the earliest legal cycle, `gap` the number of the gap that asks for it, and `loss` the DRAM cycles that this gap loses
- * to rounding: rounded gap times ratio, less the gap; 0 to ratio - 1. With any other number all three are 0.
+ * number: the first that holds of 1, 2, 3, 4, 5, 6, 12, 7, 9, in this order; else 0. With 0, `cycle` is the cycle offered, `gap` and
+ * `loss` are 0. With 7, `cycle` is the earliest legal cycle, `gap` the number of the gap that asks for it, and `loss` the DRAM cycles
+ * that this gap loses to rounding: rounded gap times ratio, less the gap; 0 to ratio - 1. With any other number all three are 0.
  */
 struct rossinhiu_offered {
     struct rossinhiu_session session; /* go on from it: with 0 once its record is on the disk; with any other number it is the old one */

@@ -20,7 +20,7 @@ const FUNCTIONS: [&str; 13] = [
     "console",
 ];
 
-/// The layouts whose structs are those of this one, but for bytes between fields.
+/// The layouts whose structs are those of src/before.rs, but for bytes between fields.
 const LAYOUTS: [u32; 1] = [4];
 
 /// Which of them an archive has, by its names.

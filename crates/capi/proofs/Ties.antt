@@ -15,30 +15,30 @@ use Rattle.checker.specs.Replies.{stretchTold}
 use Rattle.datasheet.specs.Sheet.{picoseconds, GivesGaps}
 use Rattle.capi.specs.Crossing.{statusGiven, ListsForC}
 use Rattle.capi.specs.Language.{Plays}
-use Rattle.capi.proofs.calls.rossinhiu_fresh_4.Kinds as fresh
-use Rattle.capi.proofs.calls.rossinhiu_fresh_4.Reads as fresh-reads
-use Rattle.capi.proofs.calls.rossinhiu_open_4.Kinds as opens
-use Rattle.capi.proofs.calls.rossinhiu_open_4.Reads as open-reads
-use Rattle.capi.proofs.calls.rossinhiu_offer_4.Kinds as offers
-use Rattle.capi.proofs.calls.rossinhiu_offer_4.Reads as offer-reads
-use Rattle.capi.proofs.calls.rossinhiu_offer_pieces_4.Kinds as offers-pieces
-use Rattle.capi.proofs.calls.rossinhiu_offer_pieces_4.Reads as offer-pieces-reads
-use Rattle.capi.proofs.calls.rossinhiu_take_back_4.Kinds as takes-back
-use Rattle.capi.proofs.calls.rossinhiu_take_back_4.Reads as take-back-reads
-use Rattle.capi.proofs.calls.rossinhiu_earliest_4.Kinds as earliest
-use Rattle.capi.proofs.calls.rossinhiu_earliest_4.Reads as earliest-reads
-use Rattle.capi.proofs.calls.rossinhiu_status_4.Kinds as status
-use Rattle.capi.proofs.calls.rossinhiu_status_4.Reads as status-reads
-use Rattle.capi.proofs.calls.rossinhiu_stretch_4.Kinds as places
-use Rattle.capi.proofs.calls.rossinhiu_stretch_4.Reads as place-reads
-use Rattle.capi.proofs.calls.rossinhiu_restore_4.Kinds as restores
-use Rattle.capi.proofs.calls.rossinhiu_restore_4.Reads as restore-reads
-use Rattle.capi.proofs.calls.rossinhiu_list_part_4.Kinds as lists
-use Rattle.capi.proofs.calls.rossinhiu_list_part_4.Reads as list-reads
-use Rattle.capi.proofs.calls.rossinhiu_gaps_4.Kinds as gives
-use Rattle.capi.proofs.calls.rossinhiu_gaps_4.Reads as give-reads
-use Rattle.capi.proofs.language.rossinhiu_console_4.Kinds as plays
-use Rattle.capi.proofs.language.rossinhiu_console_4.Reads as play-reads
+use Rattle.capi.proofs.calls.rossinhiu_fresh_5.Kinds as fresh
+use Rattle.capi.proofs.calls.rossinhiu_fresh_5.Reads as fresh-reads
+use Rattle.capi.proofs.calls.rossinhiu_open_5.Kinds as opens
+use Rattle.capi.proofs.calls.rossinhiu_open_5.Reads as open-reads
+use Rattle.capi.proofs.calls.rossinhiu_offer_5.Kinds as offers
+use Rattle.capi.proofs.calls.rossinhiu_offer_5.Reads as offer-reads
+use Rattle.capi.proofs.calls.rossinhiu_offer_pieces_5.Kinds as offers-pieces
+use Rattle.capi.proofs.calls.rossinhiu_offer_pieces_5.Reads as offer-pieces-reads
+use Rattle.capi.proofs.calls.rossinhiu_take_back_5.Kinds as takes-back
+use Rattle.capi.proofs.calls.rossinhiu_take_back_5.Reads as take-back-reads
+use Rattle.capi.proofs.calls.rossinhiu_earliest_5.Kinds as earliest
+use Rattle.capi.proofs.calls.rossinhiu_earliest_5.Reads as earliest-reads
+use Rattle.capi.proofs.calls.rossinhiu_status_5.Kinds as status
+use Rattle.capi.proofs.calls.rossinhiu_status_5.Reads as status-reads
+use Rattle.capi.proofs.calls.rossinhiu_stretch_5.Kinds as places
+use Rattle.capi.proofs.calls.rossinhiu_stretch_5.Reads as place-reads
+use Rattle.capi.proofs.calls.rossinhiu_restore_5.Kinds as restores
+use Rattle.capi.proofs.calls.rossinhiu_restore_5.Reads as restore-reads
+use Rattle.capi.proofs.calls.rossinhiu_list_part_5.Kinds as lists
+use Rattle.capi.proofs.calls.rossinhiu_list_part_5.Reads as list-reads
+use Rattle.capi.proofs.calls.rossinhiu_gaps_5.Kinds as gives
+use Rattle.capi.proofs.calls.rossinhiu_gaps_5.Reads as give-reads
+use Rattle.capi.proofs.language.rossinhiu_console_5.Kinds as plays
+use Rattle.capi.proofs.language.rossinhiu_console_5.Reads as play-reads
 
 fresh-ensures : Ensures 0 fresh.ps fresh.r fresh-reads.Post (λ κs a r s. r ≡ freshState)
 fresh-ensures κs a r s p = p .0

@@ -46,14 +46,14 @@ use session::state::Session;
 use timing::clocks::ControllerCycles;
 
 #[no_mangle]
-pub extern "C" fn rossinhiu_fresh_4() -> Session
+pub extern "C" fn rossinhiu_fresh_5() -> Session
     ensures { λ r. ⌜ (r ≡ freshState) × Rep r [] ⌝ }
 {
     Session::fresh()
 }
 
 #[no_mangle]
-pub extern "C" fn rossinhiu_open_4(
+pub extern "C" fn rossinhiu_open_5(
     session: Session,
     journal: &mut [u8],
     ratio: u64,
@@ -69,7 +69,7 @@ pub extern "C" fn rossinhiu_open_4(
 }
 
 #[no_mangle]
-pub extern "C" fn rossinhiu_offer_4(
+pub extern "C" fn rossinhiu_offer_5(
     session: Session,
     journal: &mut [u8],
     kind: u64,
@@ -84,7 +84,7 @@ pub extern "C" fn rossinhiu_offer_4(
 
 // A burst whose commands lie in pieces of 64 bytes, in the places of a command record.
 #[no_mangle]
-pub extern "C" fn rossinhiu_offer_pieces_4(
+pub extern "C" fn rossinhiu_offer_pieces_5(
     session: Session,
     journal: &mut [u8],
     pieces: &[u8],
@@ -95,28 +95,28 @@ pub extern "C" fn rossinhiu_offer_pieces_4(
 }
 
 #[no_mangle]
-pub extern "C" fn rossinhiu_earliest_4(session: Session, kind: u64, rank: u64, bank: u64) -> Answer
+pub extern "C" fn rossinhiu_earliest_5(session: Session, kind: u64, rank: u64, bank: u64) -> Answer
     ensures { λ r. ⌜ TellsEarliest session kind rank bank (replyIn r) ⌝ }
 {
     earliest(session, kind, rank, bank)
 }
 
 #[no_mangle]
-pub extern "C" fn rossinhiu_take_back_4(session: Session, journal: &mut [u8]) -> TakenBack
+pub extern "C" fn rossinhiu_take_back_5(session: Session, journal: &mut [u8]) -> TakenBack
     ensures { λ r. ⌜ TakesBack session (now (journal .entry)) (plain (r .number)) (r .session) (now (journal .exit)) ⌝ }
 {
     take_back(session, journal)
 }
 
 #[no_mangle]
-pub extern "C" fn rossinhiu_status_4(session: Session) -> StatusNumbers
+pub extern "C" fn rossinhiu_status_5(session: Session) -> StatusNumbers
     ensures { λ r. ⌜ TellsStatus session (statusGiven r) ⌝ }
 {
     status_numbers(status(session))
 }
 
 #[no_mangle]
-pub extern "C" fn rossinhiu_restore_4(journal: &[u8]) -> Restored
+pub extern "C" fn rossinhiu_restore_5(journal: &[u8]) -> Restored
     ensures { λ r. ⌜ Restores (now (journal .entry)) (r .number) (r .«record») (r .session) ⌝ }
 {
     restore(journal)
@@ -124,7 +124,7 @@ pub extern "C" fn rossinhiu_restore_4(journal: &[u8]) -> Restored
 
 // Where the current client's stretch stands in a journal of so many bytes.
 #[no_mangle]
-pub extern "C" fn rossinhiu_stretch_4(session: Session, lent: usize) -> Stretch
+pub extern "C" fn rossinhiu_stretch_5(session: Session, lent: usize) -> Stretch
     ensures { λ r. ⌜ PlacesStretch session lent (stretchTold r) × (r .start + r .size ≤ lent) ⌝ }
 {
     stretch_place(session, lent)
@@ -132,7 +132,7 @@ pub extern "C" fn rossinhiu_stretch_4(session: Session, lent: usize) -> Stretch
 
 // A part of a journal whose earlier parts gave the session, one record or many; `last` is 0 if another part follows.
 #[no_mangle]
-pub extern "C" fn rossinhiu_list_part_4(
+pub extern "C" fn rossinhiu_list_part_5(
     session: Session,
     part: &[u8],
     last: u64,
@@ -150,7 +150,7 @@ pub extern "C" fn rossinhiu_list_part_4(
 }
 
 #[no_mangle]
-pub extern "C" fn rossinhiu_gaps_4(tck: u64, times: Times) -> GapsAnswer
+pub extern "C" fn rossinhiu_gaps_5(tck: u64, times: Times) -> GapsAnswer
     ensures { λ r. ⌜ GivesGaps (picoseconds tck) (times .times) r ⌝ }
 {
     let given = times.times;

@@ -27,7 +27,7 @@ pub struct LinePlayed {
 
 // A line without its newline. `numbers` is memory for the call's own use: lent, so that no call has to make it anew.
 #[no_mangle]
-pub extern "C" fn rossinhiu_console_4(
+pub extern "C" fn rossinhiu_console_5(
     session: Session,
     journal: &mut [u8],
     line: &[u8],

@@ -16,7 +16,7 @@ use timing::clocks::DramCycles;
 use timing::table::table;
 
 #[no_mangle]
-pub extern "C" fn rossinhiu_offer_all_4(
+pub extern "C" fn rossinhiu_offer_all_5(
     mut session: Session,
     journal: &mut [u8],
     offers: &[Offer],

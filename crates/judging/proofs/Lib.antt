@@ -1,3 +1,2 @@
-pub mod BankLaws
 pub mod JudgeLaws
 pub mod TakeLaws

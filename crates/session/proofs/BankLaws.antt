@@ -1,135 +1,207 @@
--- The stamps say which banks are open: what the worded rule reads off all survivors.
+-- The state's open banks: what a command leaves open, what it looks at, and that they are what the worded rule reads off all survivors.
 use mathlib.Core.Path.{_≡_, refl, sym, _∙_, ap}
-use mathlib.Core.Bool.{Bool, true, false, cond, not, _&&_, _||_, false≢true}
+use mathlib.Core.Bool.{Bool, true, false, cond, not, _&&_, _||_}
 use mathlib.Core.List.{List, [], _∷_}
-use Prim.Native.Nat.{ℕ, zero, suc, _+_, _-_, _*_, _/_, _%_, _≤_, _<_}
+use Prim.Native.Nat.{ℕ, zero, suc, _+_, _-_, _*_, _/_, _%_, _^_, _≤_, _<_}
+use native.Mathlib.Nat.{mod-lt}
 use native.Mathlib.Omega.{arith}
-use lib.Dec.{T, eqb, ltb}
-use borrow.Author.Tests.{eq-eqb, ne-eqb, eqb-true, eqb-false, lt-ltb, le-ltb}
+use lib.Dec.{eqb, ltb}
+use lib.Bits.{bitAnd, bitOr, and-mask, and-zero-r, or-zero-r}
+use borrow.Author.Tests.{eq-eqb, ne-eqb, eqb-true, eqb-false, ltb-true, ltb-false}
 use Rattle.timing.specs.declared.kinds.CommandKind.{CommandKind}
 use Rattle.timing.specs.declared.kinds.CommandKind.the-variants.{Act, Rd, Wr, Prepb, Preab, Refab, Refpb}
 use Rattle.timing.specs.declared.rules.Command.{Command}
-use Rattle.timing.specs.Kinds.{codeOf, sameKind, allBanks}
-use Rattle.timing.specs.Earliest.{Stamped, cycleAfter}
-use Rattle.timing.specs.Banks.{isOpen, someBank, wrongFor}
+use Rattle.timing.specs.Kinds.{codeOf, sameKind}
+use Rattle.timing.specs.Earliest.{Stamped}
+use Rattle.timing.specs.Banks.{speaksOf, isOpen, someBank, wrongFor}
 use Rattle.timing.proofs.KindLaws.{code-low, code-high}
-use Rattle.session.specs.declared.stamps.Stamp.{Stamp}
 use Rattle.session.specs.declared.state.Session.{Session}
-use Rattle.session.specs.State.{slots, slotOf}
-use Rattle.session.specs.Banks.{slotFor, stampFor, openBy}
-use Rattle.session.specs.Rep.{stampIn, Placed, Rising, Stands}
+use Rattle.session.specs.State.{rankSlots, slotOf, isUp, opened, closed, slotIs, firstBit, bitOf, rankClosed, banksAfter}
+use Rattle.session.specs.Banks.{openBy, bitFor, lookedAt, wanted}
+use Rattle.session.specs.Rep.{banksIn, Rising, Stands}
+use Rattle.session.proofs.BitLaws.{up-from, opened-up, closed-up, low-up, multiple-down, none-up, some-up, or-bit, less-bit, less-lower, less-upper}
 
--- a stamp is at most the cycle after the last survivor
-stamp-below : (slot : ℕ) (xs : List Stamped) → Rising xs → stampIn slot xs ≤ cycleAfter xs
-unfolding stampIn
-stamp-below slot [] r = omega arith
-stamp-below slot (x ∷ xs) r = go (eqb (slotOf (x .command)) slot) (stamp-below slot xs (r .2))
-  where
-    go : (b : Bool) → stampIn slot xs ≤ cycleAfter xs → cond b (x .cycle + 1) (stampIn slot xs) ≤ x .cycle + 1
-    go true l = omega arith
-    go false l = omega (arith, l, r .1)
+-- a command's bits, closed and then opened, as a word's operations do it
+module _ (up slot : ℕ) (word : up < 4294967296) where
+  abbrev place : ℕ
+  place = slot / 16 % 7
 
--- a slot tells rank, kind and bank
+  abbrev bit : ℕ
+  bit = bitOf slot
+
+  abbrev all : ℕ
+  all = 65535 * 2 ^ firstBit slot
+
+  none : (n : ℕ) → n - 0 ≡ n
+  none n = omega arith
+
+  rank-closed : up - bitAnd up all ≡ rankClosed up slot
+  rank-closed = go (ltb slot rankSlots)
+    where
+      go : (b : Bool) → up - bitAnd up (65535 * 2 ^ cond b 0 16) ≡ cond b (up / 65536 * 65536) (up % 65536)
+      go true = less-lower up
+      go false = less-upper up word
+
+  pub after-bits : bitOr (up - bitAnd up (cond (eqb place 3) (2 ^ bit) (cond (eqb place 4) all 0))) (cond (eqb place 0) (2 ^ bit) 0) ≡ banksAfter up slot
+  unfolding banksAfter
+  after-bits = go (eqb place 0) (eqb place 3) (eqb place 4) refl refl refl
+    where
+      alone : eqb place 0 ≡ true → (eqb place 3 ≡ false) × (eqb place 4 ≡ false)
+      alone e = let n = eqb-true place 0 e in (ne-eqb place 3 (omega arith), ne-eqb place 4 (omega arith))
+
+      go : (a b c : Bool) → eqb place 0 ≡ a → eqb place 3 ≡ b → eqb place 4 ≡ c
+          → bitOr (up - bitAnd up (cond (eqb place 3) (2 ^ bit) (cond (eqb place 4) all 0))) (cond (eqb place 0) (2 ^ bit) 0)
+          ≡ cond (eqb place 0) (opened up bit) (cond (eqb place 3) (closed up bit) (cond (eqb place 4) (rankClosed up slot) up))
+      go true b c e f g = rw (e, alone e .0, alone e .1, and-zero-r up, none up) (or-bit up bit)
+      go false true c e f g = rw (e, f) (or-zero-r (up - bitAnd up (2 ^ bit)) ∙ less-bit up bit)
+      go false false true e f g = rw (e, f, g) (or-zero-r (up - bitAnd up all) ∙ rank-closed)
+      go false false false e f g = rw (e, f, g) (or-zero-r (up - bitAnd up 0) ∙ ap (λ (n : ℕ). up - n) (and-zero-r up) ∙ none up)
+
+-- a command's look at the bits from its own on
+module _ (up rank bank : ℕ) where
+  abbrev from : ℕ
+  from = up / 2 ^ (rank % 2 * 16)
+
+  some-open : not (eqb (bitAnd from 65535) 0) ≡ someBank 16 (λ b. openBy up rank b)
+  some-open =
+      ap (λ (n : ℕ). not (eqb n 0)) (and-mask from 16) ∙ sym (some-up from 16) ∙ (λ i. someBank 16 (λ b. sym (up-from up (rank % 2 * 16) b) i))
+
+  abbrev own : ℕ
+  own = up / 2 ^ (rank % 2 * 16 + bank)
+
+  is-open : not (eqb (bitAnd own 1) 0) ≡ openBy up rank bank
+  is-open = ap (λ (n : ℕ). not (eqb n 0)) (and-mask own 1) ∙ go (own % 2) (mod-lt own (omega arith))
+    where
+      go : (n : ℕ) → n < 2 → not (eqb n 0) ≡ eqb n 1
+      go zero l = refl
+      go (suc zero) l = refl
+      go (suc (suc n)) l = absurd (omega (arith, l))
+
+  is-closed : not (eqb (bitAnd own 1) 1) ≡ not (openBy up rank bank)
+  is-closed = ap (λ (n : ℕ). not (eqb n 1)) (and-mask own 1)
+
+  pub looks : (k : CommandKind) → not (eqb (bitAnd (up / 2 ^ bitFor k rank bank) (lookedAt k)) (wanted k)) ≡ wrongFor k bank (λ b. openBy up rank b)
+  looks Act = is-open
+  looks Rd = is-closed
+  looks Wr = is-closed
+  looks Prepb = ap (λ (n : ℕ). not (eqb n 0)) (and-zero-r own)
+  looks Preab = ap (λ (n : ℕ). not (eqb n 0)) (and-zero-r from)
+  looks Refab = some-open
+  looks Refpb = is-open
+
+-- A PLACED COMMAND BY ITS SLOT: its kind, and its bank's bit
 module _ (c : Command) (rl : c .rank < 2) (bl : c .bank < 16) where
-  tells-rank : slotOf c / 112 ≡ c .rank
-  tells-rank = omega (arith, code-low (c .kind), code-high (c .kind))
-
-  tells-kind : slotOf c / 16 % 7 ≡ codeOf (c .kind) - 1
-  tells-kind = omega (arith, code-low (c .kind), code-high (c .kind))
-
-  tells-bank : slotOf c % 16 ≡ c .bank
-  tells-bank = omega arith
-
--- so two commands in their places have one slot exactly if they agree
-module _ (c d : Command) (cr : c .rank < 2) (cb : c .bank < 16) (dr : d .rank < 2) (db : d .bank < 16) where
-  code-same : slotOf c ≡ slotOf d → codeOf (c .kind) ≡ codeOf (d .kind)
-  code-same z =
-      let less : codeOf (c .kind) - 1 ≡ codeOf (d .kind) - 1 = sym (tells-kind c cr cb) ∙ ap (λ (n : ℕ). n / 16 % 7) z ∙ tells-kind d dr db in
-      omega (arith, less, code-low (c .kind), code-low (d .kind))
-
-  same-slot : eqb (slotOf c) (slotOf d) ≡ (eqb (c .rank) (d .rank) && (sameKind (c .kind) (d .kind) && eqb (c .bank) (d .bank)))
-  same-slot = go (eqb (c .rank) (d .rank)) (eqb (codeOf (c .kind)) (codeOf (d .kind))) (eqb (c .bank) (d .bank)) refl refl refl
+  slot-is : (k : CommandKind) → slotIs k (slotOf c) ≡ sameKind (c .kind) k
+  slot-is k = go (sameKind (c .kind) k) refl
     where
-      go : (r s b : Bool) → eqb (c .rank) (d .rank) ≡ r → eqb (codeOf (c .kind)) (codeOf (d .kind)) ≡ s → eqb (c .bank) (d .bank) ≡ b → eqb (slotOf c) (slotOf d) ≡ (r && (s && b))
-      go true true true e f g =
-          eq-eqb (slotOf c) (slotOf d)
-          (λ i. (eqb-true (c .rank) (d .rank) e i % 2 * 7 + (eqb-true (codeOf (c .kind)) (codeOf (d .kind)) f i - 1)) * 16 + eqb-true (c .bank) (d .bank) g i % 16)
-      go false s b e f g = ne-eqb (slotOf c) (slotOf d) (λ z. eqb-false (c .rank) (d .rank) e (sym (tells-rank c cr cb) ∙ ap (λ (n : ℕ). n / 112) z ∙ tells-rank d dr db))
-      go true false b e f g = ne-eqb (slotOf c) (slotOf d) (λ z. eqb-false (codeOf (c .kind)) (codeOf (d .kind)) f (code-same z))
-      go true true false e f g = ne-eqb (slotOf c) (slotOf d) (λ z. eqb-false (c .bank) (d .bank) g (sym (tells-bank c cr cb) ∙ ap (λ (n : ℕ). n % 16) z ∙ tells-bank d dr db))
+      tells : slotOf c / 16 % 7 ≡ codeOf (c .kind) - 1
+      tells = omega (arith, code-low (c .kind), code-high (c .kind))
 
-and-false : (b : Bool) → (b && false) ≡ false
-and-false true = refl
-and-false false = refl
+      go : (b : Bool) → sameKind (c .kind) k ≡ b → slotIs k (slotOf c) ≡ b
+      go true e = eq-eqb (slotOf c / 16 % 7) (codeOf k - 1) (tells ∙ ap (λ (n : ℕ). n - 1) (eqb-true (codeOf (c .kind)) (codeOf k) e))
+      go false e = ne-eqb (slotOf c / 16 % 7) (codeOf k - 1) (let n = eqb-false (codeOf (c .kind)) (codeOf k) e in omega (arith, tells, code-low (c .kind), code-low k))
 
--- the test, with one stamp more
-abbrev opens : Bool → Bool → Bool → ℕ → ℕ → ℕ → ℕ → Bool
-opens act own all t a o p = ltb (cond own t o) (cond act t a) && ltb (cond all t p) (cond act t a)
-
-module _ (rank bank : ℕ) (rl : rank < 2) (bl : bank < 16) where
-  abbrev openIn : List Stamped → Bool
-  openIn xs = ltb (stampIn (slotFor Prepb rank bank) xs) (stampIn (slotFor Act rank bank) xs) && ltb (stampIn (slotFor Preab rank 0) xs) (stampIn (slotFor Act rank bank) xs)
-
-  open-in : (xs : List Stamped) → Rising xs → openIn xs ≡ isOpen rank bank xs
-  unfolding stampIn isOpen
-  open-in [] r = refl
-  open-in (x ∷ xs) r =
-      (λ i. opens (slot Act bank bl i) (slot Prepb bank bl i) (slot Preab 0 (omega arith) i) t a o p) ∙ by (x .command .kind) (eqb (x .command .rank) rank) (eqb (x .command .bank) bank) (eqb (x .command .bank) 0) (λ w. eq-eqb (x .command .bank) 0 (r .0 .whole w)) (open-in xs (r .2))
+  first-is : firstBit (slotOf c) ≡ c .rank * 16
+  first-is = go (ltb (slotOf c) rankSlots) refl
     where
-      t : ℕ
-      t = x .cycle + 1
+      go : (b : Bool) → ltb (slotOf c) rankSlots ≡ b → cond b 0 16 ≡ c .rank * 16
+      go true e = omega (arith, ltb-true (slotOf c) rankSlots e, code-low (c .kind))
+      go false e = omega (arith, ltb-false (slotOf c) rankSlots e, code-high (c .kind))
 
-      a : ℕ
-      a = stampIn (slotFor Act rank bank) xs
+  bit-is : bitOf (slotOf c) ≡ c .rank * 16 + c .bank
+  bit-is = let own : slotOf c % 16 ≡ c .bank = omega arith in λ i. first-is i + own i
 
-      o : ℕ
-      o = stampIn (slotFor Prepb rank bank) xs
+  module _ (rank bank : ℕ) (rankl : rank < 2) (bankl : bank < 16) where
+    same-bit : eqb (bitOf (slotOf c)) (rank % 2 * 16 + bank) ≡ (eqb (c .rank) rank && eqb (c .bank) bank)
+    same-bit = rw bit-is (go (eqb (c .rank) rank) (eqb (c .bank) bank) refl refl)
+      where
+        go : (p q : Bool) → eqb (c .rank) rank ≡ p → eqb (c .bank) bank ≡ q → eqb (c .rank * 16 + c .bank) (rank % 2 * 16 + bank) ≡ (p && q)
+        go true true e f = eq-eqb (c .rank * 16 + c .bank) (rank % 2 * 16 + bank) (omega (arith, eqb-true (c .rank) rank e, eqb-true (c .bank) bank f))
+        go true false e f = ne-eqb (c .rank * 16 + c .bank) (rank % 2 * 16 + bank) (let n = eqb-false (c .bank) bank f in omega (arith, eqb-true (c .rank) rank e))
+        go false q e f = ne-eqb (c .rank * 16 + c .bank) (rank % 2 * 16 + bank) (let n = eqb-false (c .rank) rank e in omega arith)
 
-      p : ℕ
-      p = stampIn (slotFor Preab rank 0) xs
+    -- what the command leaves of a bank: closed with its rank, opened or closed by itself, or as it was
+    rank-closed-up : (m : ℕ) → isUp (rankClosed m (slotOf c)) (rank % 2 * 16 + bank) ≡ cond (eqb (c .rank) rank) false (isUp m (rank % 2 * 16 + bank))
+    rank-closed-up m = go (ltb (slotOf c) rankSlots) refl rank rankl
+      where
+        at : (r : ℕ) (n : ℕ) → isUp n (r % 2 * 16 + bank) ≡ isUp (n / 2 ^ (r % 2 * 16)) bank
+        at r n = up-from n (r % 2 * 16) bank
 
-      before : (slot : ℕ) → stampIn slot xs < x .cycle + 1
-      before slot = omega (arith, stamp-below slot xs (r .2), r .1)
+        lower : (n : ℕ) → n / 1 ≡ n
+        lower n = omega arith
 
-      slot : (k : CommandKind) (b : ℕ) → b < 16 → eqb (slotOf (x .command)) (slotFor k rank b) ≡ (eqb (x .command .rank) rank && (sameKind (x .command .kind) k && eqb (x .command .bank) b))
-      slot k b l = same-slot (x .command) (record { kind = k; rank = rank; bank = b }) (r .0 .rank) (r .0 .bank) rl l
+        go : (b : Bool) → ltb (slotOf c) rankSlots ≡ b → (r : ℕ) → r < 2
+            → isUp (cond b (m / 65536 * 65536) (m % 65536)) (r % 2 * 16 + bank) ≡ cond (eqb (c .rank) r) false (isUp m (r % 2 * 16 + bank))
+        go true e zero l =
+            let own : eqb (c .rank) 0 ≡ true = eq-eqb (c .rank) 0 (omega (arith, ltb-true (slotOf c) rankSlots e, code-low (c .kind))) in
+            rw own (at 0 (m / 65536 * 65536) ∙ ap (λ (n : ℕ). isUp n bank) (lower (m / 65536 * 65536)) ∙ multiple-down (m / 65536) 16 bank bankl)
+        go true e (suc zero) l =
+            let other : eqb (c .rank) 1 ≡ false = ne-eqb (c .rank) 1 (omega (arith, ltb-true (slotOf c) rankSlots e, code-low (c .kind))) in
+            let above : m / 65536 * 65536 / 65536 ≡ m / 65536 = omega arith in
+            rw other (at 1 (m / 65536 * 65536) ∙ ap (λ (n : ℕ). isUp n bank) above ∙ sym (at 1 m))
+        go false e zero l =
+            let other : eqb (c .rank) 0 ≡ false = ne-eqb (c .rank) 0 (omega (arith, ltb-false (slotOf c) rankSlots e, code-high (c .kind))) in
+            rw other (at 0 (m % 65536) ∙ ap (λ (n : ℕ). isUp n bank) (lower (m % 65536)) ∙ low-up m 16 bank bankl ∙ sym (ap (λ (n : ℕ). isUp n bank) (lower m)) ∙ sym (at 0 m))
+        go false e (suc zero) l =
+            let own : eqb (c .rank) 1 ≡ true = eq-eqb (c .rank) 1 (omega (arith, ltb-false (slotOf c) rankSlots e, code-high (c .kind))) in
+            let above : m % 65536 / 65536 ≡ 0 = omega arith in
+            rw own (at 1 (m % 65536) ∙ ap (λ (n : ℕ). isUp n bank) above ∙ none-up bank)
+        go b e (suc (suc r)) l = absurd (omega (arith, l))
 
-      by : (k : CommandKind) (here own first : Bool) → (T (allBanks k) → first ≡ true) → openIn xs ≡ isOpen rank bank xs
-          → opens (here && (sameKind k Act && own)) (here && (sameKind k Prepb && own)) (here && (sameKind k Preab && first)) t a o p
-          ≡ cond (here && (sameKind k Preab || (sameKind k Act || sameKind k Prepb) && own)) (sameKind k Act) (isOpen rank bank xs)
-      by k false own first w rest = rest
-      by Act true true first w rest = rw (lt-ltb o t (before (slotFor Prepb rank bank)), lt-ltb p t (before (slotFor Preab rank 0)))
-      by Act true false first w rest = rest
-      by Rd true own first w rest = rest
-      by Wr true own first w rest = rest
-      by Prepb true true first w rest = rw (le-ltb t a (omega (arith, before (slotFor Act rank bank))))
-      by Prepb true false first w rest = rest
-      by Preab true own true w rest = rw (le-ltb t a (omega (arith, before (slotFor Act rank bank)))) (and-false (ltb o a))
-      by Preab true own false w rest = absurd (false≢true (w tt))
-      by Refab true own first w rest = rest
-      by Refpb true own first w rest = rest
+    after-up : (m : ℕ) → isUp (banksAfter m (slotOf c)) (rank % 2 * 16 + bank) ≡ cond (speaksOf rank bank c) (sameKind (c .kind) Act) (isUp m (rank % 2 * 16 + bank))
+    unfolding banksAfter
+    after-up m = rw (slot-is Act, slot-is Prepb, slot-is Preab) (by (c .kind) (eqb (c .rank) rank) (eqb (c .bank) bank) same-bit (rank-closed-up m))
+      where
+        bit : ℕ
+        bit = bitOf (slotOf c)
+
+        j : ℕ
+        j = rank % 2 * 16 + bank
+
+        silent : (b : Bool) → isUp m j ≡ cond (b && false) false (isUp m j)
+        silent true = refl
+        silent false = refl
+
+        by : (k : CommandKind) (here own : Bool) → eqb bit j ≡ (here && own) → isUp (rankClosed m (slotOf c)) j ≡ cond here false (isUp m j)
+            → isUp (cond (sameKind k Act) (opened m bit) (cond (sameKind k Prepb) (closed m bit) (cond (sameKind k Preab) (rankClosed m (slotOf c)) m))) j
+            ≡ cond (here && (sameKind k Preab || (sameKind k Act || sameKind k Prepb) && own)) (sameKind k Act) (isUp m j)
+        by Act here own same all = opened-up m bit j ∙ ap (λ (b : Bool). cond b true (isUp m j)) same
+        by Rd here own same all = silent here
+        by Wr here own same all = silent here
+        by Prepb here own same all = closed-up m bit j ∙ ap (λ (b : Bool). cond b false (isUp m j)) same
+        by Preab true own same all = all
+        by Preab false own same all = all
+        by Refab here own same all = silent here
+        by Refpb here own same all = silent here
+
+-- THE SURVIVORS' BANKS
+pub banks-in : (rank bank : ℕ) → rank < 2 → bank < 16 → (xs : List Stamped) → Rising xs → openBy (banksIn xs) rank bank ≡ isOpen rank bank xs
+unfolding banksIn isOpen
+banks-in rank bank rl bl [] r = none-up (rank % 2 * 16 + bank)
+banks-in rank bank rl bl (x ∷ xs) r =
+    after-up (x .command) (r .0 .rank) (r .0 .bank) rank bank rl bl (banksIn xs)
+    ∙ ap (λ (b : Bool). cond (speaksOf rank bank (x .command)) (sameKind (x .command .kind) Act) b) (banks-in rank bank rl bl xs (r .2))
 
 module _ (s : Session) (xs : List Stamped) (d : ℕ) (stands : Stands s xs d) where
-  kept : (k : CommandKind) (rank bank : ℕ) → stampFor (s .last) k rank bank ≡ stampIn (slotFor k rank bank) xs
-  kept k rank bank = ap (λ (x : Stamp). x .0) (stands .last (slotFor k rank bank) (omega (arith, code-low k, code-high k)))
+  abbrev up : ℕ
+  up = s .progress .«open_banks»
 
-  pub open-same : (rank bank : ℕ) → rank < 2 → bank < 16 → openBy (s .last) rank bank ≡ isOpen rank bank xs
-  open-same rank bank rl bl =
-      (λ i. ltb (kept Prepb rank bank i) (kept Act rank bank i) && ltb (kept Preab rank 0 i) (kept Act rank bank i)) ∙ open-in rank bank rl bl xs (stands .rising)
+  pub banks-same : (rank bank : ℕ) → rank < 2 → bank < 16 → openBy up rank bank ≡ isOpen rank bank xs
+  banks-same rank bank rl bl = ap (λ (n : ℕ). openBy n rank bank) (stands .banks) ∙ banks-in rank bank rl bl xs (stands .rising)
 
-  some-same : (n rank : ℕ) → n ≤ 16 → rank < 2 → someBank n (λ bank. openBy (s .last) rank bank) ≡ someBank n (λ bank. isOpen rank bank xs)
+  some-same : (n rank : ℕ) → n ≤ 16 → rank < 2 → someBank n (λ bank. openBy up rank bank) ≡ someBank n (λ bank. isOpen rank bank xs)
   unfolding someBank
   some-same zero rank l rl = refl
-  some-same (suc n) rank l rl = λ i. open-same rank n rl (omega (arith, l)) i || some-same n rank (omega (arith, l)) rl i
+  some-same (suc n) rank l rl = λ i. banks-same rank n rl (omega (arith, l)) i || some-same n rank (omega (arith, l)) rl i
 
   pub wrong-same : (c : Command) → c .rank < 2 → c .bank < 16
-      → wrongFor (c .kind) (c .bank) (λ bank. openBy (s .last) (c .rank) bank) ≡ wrongFor (c .kind) (c .bank) (λ bank. isOpen (c .rank) bank xs)
+      → wrongFor (c .kind) (c .bank) (λ bank. openBy up (c .rank) bank) ≡ wrongFor (c .kind) (c .bank) (λ bank. isOpen (c .rank) bank xs)
   wrong-same c rl bl = by (c .kind)
     where
-      here : openBy (s .last) (c .rank) (c .bank) ≡ isOpen (c .rank) (c .bank) xs
-      here = open-same (c .rank) (c .bank) rl bl
+      here : openBy up (c .rank) (c .bank) ≡ isOpen (c .rank) (c .bank) xs
+      here = banks-same (c .rank) (c .bank) rl bl
 
-      by : (k : CommandKind) → wrongFor k (c .bank) (λ bank. openBy (s .last) (c .rank) bank) ≡ wrongFor k (c .bank) (λ bank. isOpen (c .rank) bank xs)
+      by : (k : CommandKind) → wrongFor k (c .bank) (λ bank. openBy up (c .rank) bank) ≡ wrongFor k (c .bank) (λ bank. isOpen (c .rank) bank xs)
       by Act = here
       by Rd = ap not here
       by Wr = ap not here

@@ -1,4 +1,5 @@
 pub mod RepLaws
+pub mod BitLaws
 pub mod BankLaws
 pub mod RoundedLaws
 pub mod StoreLaws

@@ -8,14 +8,14 @@ use lib.Dec.{T, eqb}
 use lib.ListN.{length, getD, drop}
 use Rattle.timing.specs.declared.kinds.CommandKind.the-variants.{Act}
 use Rattle.timing.specs.declared.rules.Command.{Command}
-use Rattle.timing.specs.Kinds.{sameKind, allBanks}
+use Rattle.timing.specs.Kinds.{sameKind}
 use Rattle.timing.specs.Earliest.{Stamped, cycleAfter, acts}
 use Rattle.session.specs.declared.stamps.Stamp.{Stamp}
 use Rattle.session.specs.declared.state.Entry.{Entry}
 use Rattle.session.specs.declared.state.Progress.{Progress}
 use Rattle.session.specs.declared.state.Session.{Session}
 use Rattle.session.specs.Stamps.{stamp, cycleBound}
-use Rattle.session.specs.State.{slots, maxDepth, slotOf, stampAt, noEntry}
+use Rattle.session.specs.State.{slots, maxDepth, slotOf, stampAt, banksAfter, noEntry}
 
 -- the stamp of the latest survivor of a slot, 0 where there is none
 unfoldable pub stampIn : ℕ → List Stamped → ℕ
@@ -38,11 +38,15 @@ actsIn xs =
     stamp (actIn 1 3 xs) ∷
     []
 
+-- which banks the survivors leave open, from the oldest on
+unfoldable pub banksIn : List Stamped → ℕ
+banksIn [] = 0
+banksIn (x ∷ xs) = banksAfter (banksIn xs) (slotOf (x .command))
+
 -- a command in its place, at a cycle that a stamp holds
 pub record Placed (c : Command) (t : ℕ) : Type 0 where
   pub rank : c .rank < 2
   pub bank : c .bank < 16
-  pub whole : T (allBanks (c .kind)) → c .bank ≡ 0
   pub cycle : t < cycleBound
 
 -- survivors, newest first: each placed, and each later than those behind it
@@ -58,6 +62,7 @@ Undoes e (x ∷ xs) =
     × (e .earlier ≡ stamp (stampIn (slotOf (x .command)) xs))
     × (T (sameKind (x .command .kind) Act) → e .«pushed_out» ≡ stamp (actIn (x .command .rank) 3 xs))
     × (e .latest ≡ stamp (cycleAfter xs))
+    × (e .«open_banks» ≡ banksIn xs)
 
 -- the place in the ring of the entry for the i-th latest survivor
 abbrev pub ringAt : Progress → ℕ → ℕ
@@ -69,6 +74,7 @@ pub record Stands (s : Session) (xs : List Stamped) (d : ℕ) : Type 0 where
   pub last : (i : ℕ) → i < slots → stampAt (s .last) i ≡ stamp (stampIn i xs)
   pub activates : s .progress .activates ≡ actsIn xs
   pub latest : s .progress .latest ≡ stamp (cycleAfter xs)
+  pub banks : s .progress .«open_banks» ≡ banksIn xs
   pub survivors : s .progress .survivors ≡ length xs
   pub depth : s .progress .depth ≡ d
   pub shallow : d ≤ length xs

@@ -15,11 +15,12 @@ pub const RANK_SLOTS: usize = 112;
 // How many commands can be taken back.
 pub const MAX_DEPTH: usize = 64;
 
-// What a take-back must put back: the slot of the command taken back, the stamp that stood there before it, the activate that it
-// pushed out of the four, and the stamp of the survivor before it.
+// What a take-back must put back: the slot of the command taken back, the banks that were open before it, the stamp that stood at the
+// slot, the activate that it pushed out of the four, and the stamp of the survivor before it.
 #[repr(C)]
 pub struct Entry {
-    pub slot: u64,
+    pub slot: u32,
+    pub open_banks: u32,
     pub earlier: Stamp,
     pub pushed_out: Stamp,
     pub latest: Stamp,
@@ -38,6 +39,8 @@ pub struct Progress {
     pub depth: u64,
     // The records in the journal.
     pub records: u64,
+    // A bit for each open bank, those of rank 0 first.
+    pub open_banks: u32,
 }
 
 // What the client gave: only an opening changes it.
@@ -71,6 +74,7 @@ impl Session {
             last: [Stamp(0); SLOTS],
             entries: [Entry {
                 slot: 0,
+                open_banks: 0,
                 earlier: Stamp(0),
                 pushed_out: Stamp(0),
                 latest: Stamp(0),
@@ -82,6 +86,7 @@ impl Session {
                 survivors: 0,
                 depth: 0,
                 records: 0,
+                open_banks: 0,
             },
             terms: Terms {
                 rounded: [ControllerCycles(0); 20],

@@ -12,11 +12,11 @@ use Rattle.timing.specs.Kinds.{sameKind}
 use Rattle.timing.specs.Earliest.{Stamped, Standing}
 
 -- a command that speaks of a bank: ACT and PREPB of their own, PREAB of each of its rank
-abbrev pub names : ℕ → Command → Bool
-names bank c = sameKind (c .kind) Preab || (sameKind (c .kind) Act || sameKind (c .kind) Prepb) && eqb (c .bank) bank
+abbrev pub speaks : ℕ → Command → Bool
+speaks bank c = sameKind (c .kind) Preab || (sameKind (c .kind) Act || sameKind (c .kind) Prepb) && eqb (c .bank) bank
 
 abbrev pub speaksOf : ℕ → ℕ → Command → Bool
-speaksOf rank bank c = eqb (c .rank) rank && names bank c
+speaksOf rank bank c = eqb (c .rank) rank && speaks bank c
 
 -- open if the last survivor that speaks of the bank is an ACT; closed if none does
 unfoldable pub isOpen : ℕ → ℕ → List Stamped → Bool
@@ -34,13 +34,13 @@ banks = 16
 -- WHAT A COMMAND NEEDS, by which banks of its rank are open: ACT and REFPB a closed bank, RD and WR an open one, REFAB all of the rank closed. Precharging
 -- is always allowed
 abbrev pub wrongFor : CommandKind → ℕ → (ℕ → Bool) → Bool
-wrongFor Act bank up = up bank
-wrongFor Rd bank up = not (up bank)
-wrongFor Wr bank up = not (up bank)
-wrongFor Prepb bank up = false
-wrongFor Preab bank up = false
-wrongFor Refab bank up = someBank banks up
-wrongFor Refpb bank up = up bank
+wrongFor Act bank is-open = is-open bank
+wrongFor Rd bank is-open = not (is-open bank)
+wrongFor Wr bank is-open = not (is-open bank)
+wrongFor Prepb bank is-open = false
+wrongFor Preab bank is-open = false
+wrongFor Refab bank is-open = someBank banks is-open
+wrongFor Refpb bank is-open = is-open bank
 
 abbrev pub wrongBank : Standing → Command → Bool
 wrongBank st c = has (st .settings .opening) bankStates && wrongFor (c .kind) (c .bank) (λ bank. isOpen (c .rank) bank (st .survivors))

@@ -1,11 +1,13 @@
-//! The library's C functions as they are: include/rossinhiu.h in Rust. The number in the linked names is that of the layout. Every struct is made of numbers alone, so any bytes are
-//! a value of it.
+//! The library's C functions as they are: include/rossinhiu.h in Rust. The number in the linked names is that of the layout. Every struct
+//! is made of numbers alone, so any bytes are a value of it.
 
 /// What a take-back must put back.
 #[repr(C)]
 #[derive(Clone, Copy, Debug, Default, PartialEq, Eq)]
 pub struct Entry {
-    pub slot: u64,
+    pub slot: u32,
+    /// Before the command that is taken back.
+    pub open_banks: u32,
     pub earlier: u64,
     pub pushed_out: u64,
     pub latest: u64,
@@ -31,6 +33,8 @@ pub struct Progress {
     pub survivors: u64,
     pub depth: u64,
     pub records: u64,
+    /// A bit for each: bank b of rank r is bit 16 * r + b.
+    pub open_banks: u32,
 }
 
 /// What the client gave.
@@ -184,11 +188,11 @@ pub struct Played {
 }
 
 extern "C" {
-    #[link_name = "rossinhiu_fresh_4"]
+    #[link_name = "rossinhiu_fresh_5"]
     pub fn rossinhiu_fresh() -> Session;
-    #[link_name = "rossinhiu_gaps_4"]
+    #[link_name = "rossinhiu_gaps_5"]
     pub fn rossinhiu_gaps(tck: u64, times: Times) -> Sheet;
-    #[link_name = "rossinhiu_open_4"]
+    #[link_name = "rossinhiu_open_5"]
     pub fn rossinhiu_open(
         session: Session,
         journal: *mut u8,
@@ -199,7 +203,7 @@ extern "C" {
         client: u32,
         gaps: Gaps,
     ) -> Opened;
-    #[link_name = "rossinhiu_offer_4"]
+    #[link_name = "rossinhiu_offer_5"]
     pub fn rossinhiu_offer(
         session: Session,
         journal: *mut u8,
@@ -209,7 +213,7 @@ extern "C" {
         bank: u64,
         cycle: u64,
     ) -> Offered;
-    #[link_name = "rossinhiu_offer_all_4"]
+    #[link_name = "rossinhiu_offer_all_5"]
     pub fn rossinhiu_offer_all(
         session: Session,
         journal: *mut u8,
@@ -217,7 +221,7 @@ extern "C" {
         commands: *const Command,
         listed: usize,
     ) -> Burst;
-    #[link_name = "rossinhiu_offer_pieces_4"]
+    #[link_name = "rossinhiu_offer_pieces_5"]
     pub fn rossinhiu_offer_pieces(
         session: Session,
         journal: *mut u8,
@@ -225,17 +229,17 @@ extern "C" {
         pieces: *const u8,
         pieces_size: usize,
     ) -> Burst;
-    #[link_name = "rossinhiu_earliest_4"]
+    #[link_name = "rossinhiu_earliest_5"]
     pub fn rossinhiu_earliest(session: Session, kind: u64, rank: u64, bank: u64) -> Numbers;
-    #[link_name = "rossinhiu_take_back_4"]
+    #[link_name = "rossinhiu_take_back_5"]
     pub fn rossinhiu_take_back(session: Session, journal: *mut u8, size: usize) -> TakenBack;
-    #[link_name = "rossinhiu_status_4"]
+    #[link_name = "rossinhiu_status_5"]
     pub fn rossinhiu_status(session: Session) -> Status;
-    #[link_name = "rossinhiu_restore_4"]
+    #[link_name = "rossinhiu_restore_5"]
     pub fn rossinhiu_restore(journal: *const u8, size: usize) -> Restored;
-    #[link_name = "rossinhiu_stretch_4"]
+    #[link_name = "rossinhiu_stretch_5"]
     pub fn rossinhiu_stretch(session: Session, size: usize) -> Part;
-    #[link_name = "rossinhiu_list_part_4"]
+    #[link_name = "rossinhiu_list_part_5"]
     pub fn rossinhiu_list_part(
         session: Session,
         part: *const u8,
@@ -244,7 +248,7 @@ extern "C" {
         out: *mut u8,
         out_size: usize,
     ) -> Listed;
-    #[link_name = "rossinhiu_console_4"]
+    #[link_name = "rossinhiu_console_5"]
     pub fn rossinhiu_console(
         session: Session,
         journal: *mut u8,

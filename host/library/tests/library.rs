@@ -139,11 +139,7 @@ impl Pair {
     }
 
     fn is_open(&self, rank: u64, bank: u64) -> bool {
-        let last = |kind: u64, bank: u64| {
-            let slot = (rank * 7 + kind - 1) * 16 + bank;
-            self.session.last[slot as usize % 224]
-        };
-        last(1, bank) > last(4, bank).max(last(5, 0))
+        self.session.progress.open_banks >> (16 * rank + bank) & 1 == 1
     }
 
     /// Mostly no refresh of a rank with open banks: they are closed first.
@@ -780,13 +776,15 @@ fn any_session(rng: &mut Rng) -> Session {
         .iter_mut()
         .for_each(|x| *x = any());
     for entry in &mut session.entries {
-        (entry.slot, entry.earlier) = (any(), any());
+        (entry.slot, entry.open_banks) = (any() as u32, any() as u32);
+        entry.earlier = any();
         (entry.pushed_out, entry.latest) = (any(), any());
     }
     session.terms.rounded.iter_mut().for_each(|x| *x = any());
     (session.progress.position, session.progress.latest) = (any(), any());
     (session.progress.survivors, session.progress.depth) = (any(), any());
     session.progress.records = any() % 6;
+    session.progress.open_banks = any() as u32;
     session.terms.opening.ratio = any() as u8;
     session.terms.opening.ranks = any() as u8;
     session.terms.opening.mode = any() as u8;
@@ -807,10 +805,11 @@ fn a_full_journal() {
         twin::open(&mut state, &mut bytes, (4, 2, 2), 7, &SETTINGS_A),
         0
     );
-    for n in 1..MOST_RECORDS as u64 {
-        let (kind, bank) = (1 + n % 4, n % 16);
-        let cycle = twin::earliest(&state, kind, n % 2, bank).cycle;
-        twin::offer(&mut state, &mut bytes, kind, n % 2, bank, cycle);
+    // Bank after bank is opened, read, written and closed.
+    for n in 0..MOST_RECORDS as u64 - 1 {
+        let (kind, rank, bank) = (1 + n % 4, n / 4 % 2, n / 8 % 16);
+        let cycle = twin::earliest(&state, kind, rank, bank).cycle;
+        twin::offer(&mut state, &mut bytes, kind, rank, bank, cycle);
     }
     let end = MOST_RECORDS * RECORD;
     let (mut session, number, _) = checker::restore(&bytes[..end]);

@@ -720,8 +720,8 @@ fn another_layout_does_not_link() {
 /// The number of the layout, and what it stands for: where sizes or offsets change, the next number goes into the header, the exported
 /// names and their names in Rust, and both are written here anew. A struct that is added changes the fingerprint alone: the others are
 /// where they were.
-const LAYOUT: u64 = 4;
-const FINGERPRINT: u64 = 8_397_720_516_748_609_740;
+const LAYOUT: u64 = 5;
+const FINGERPRINT: u64 = 1_679_713_154_068_950_443;
 
 fn fingerprint(text: &str) -> u64 {
     let step = |hash: u64, byte: u8| (hash ^ u64::from(byte)).wrapping_mul(0x100_0000_01b3);
@@ -746,9 +746,9 @@ macro_rules! layout {
 fn the_headers_layout() {
     let mut all: Vec<(String, usize)> = Vec::new();
     layout!(all,
-        "rossinhiu_entry" ffi::Entry { slot, earlier, pushed_out, latest }
+        "rossinhiu_entry" ffi::Entry { slot, open_banks, earlier, pushed_out, latest }
         "rossinhiu_opening" ffi::Opening { ratio, ranks, mode, edition, client }
-        "rossinhiu_progress" ffi::Progress { activates, latest, position, survivors, depth, records }
+        "rossinhiu_progress" ffi::Progress { activates, latest, position, survivors, depth, records, open_banks }
         "rossinhiu_terms" ffi::Terms { rounded, gaps, opening, number, is_open }
         "rossinhiu_session" ffi::Session { last, entries, progress, terms }
         "rossinhiu_gaps" ffi::Gaps { gap }

@@ -235,6 +235,16 @@ fn the_guide_plays_bursts() {
     assert_eq!(modelled(b"burst\n"), "burst 0 0 0 0 0\n");
 }
 
+/// What the guide offers a bank stands in the example, and its answers are those that it shows.
+#[test]
+fn the_guide_shows_what_a_bank_can_do() {
+    let section = section("What a bank can do");
+    let (typed, told) = shown(&section, &text("banks.trace"));
+    let due = told.join("\n") + "\n";
+    assert_eq!(modelled((typed.join("\n") + "\n").as_bytes()), due);
+    assert_eq!(told.iter().filter(|l| **l == "offer 12 0 0 0").count(), 2);
+}
+
 // Traces of power tools.
 
 fn recipe(csv: &[u8], rank: Option<u32>) -> String {

@@ -8,21 +8,13 @@ use rossinhiu::checker;
 use rossinhiu::ffi::{Command, Numbers, Session};
 use rossinhiu_model::model::{NAMES, RECORD};
 use rossinhiu_speed::{before, twin};
+use std::cell::RefCell;
 
-/// The same where the earlier commit stands: the newest edition that it knows.
-const KNOWN: u8 = 1;
-
-fn known(session: &Session) -> Session {
-    let mut session = *session;
-    let edition = session.terms.opening.edition;
-    session.terms.opening.edition = edition.min(KNOWN);
-    session
-}
-
+/// The journal with the newest edition that the earlier commit knows.
 fn known_journal(bytes: &[u8]) -> Vec<u8> {
     let mut bytes = bytes.to_vec();
     for record in bytes.chunks_exact_mut(RECORD).filter(|r| r[0] == 1) {
-        record[48] = record[48].min(KNOWN);
+        record[48] = record[48].min(before::KNOWN);
     }
     bytes
 }
@@ -50,7 +42,7 @@ fn asked(kind: u64) -> Vec<Command> {
 
 fn compare_questions(title: &str, trace: &[Command], asked: &[Command]) {
     let (state, design) = (played_out(trace), design_with(trace));
-    let old = known(&state);
+    let old = before::Session::of(&state);
     for c in asked {
         let told = checker::earliest(&state, c.kind, c.rank, c.bank);
         assert_eq!(told, before::earliest(&old, c.kind, c.rank, c.bank));
@@ -71,15 +63,14 @@ fn compare_questions(title: &str, trace: &[Command], asked: &[Command]) {
 
 fn compare_offers(trace: &[Command]) {
     let (start, room) = (opened(), room_behind(&opened()));
+    let old = before::Session::of(&start);
     let run = |offer: Offer| offers(&start, &room, trace, offer, 0);
     CHANGE.compare(
         "accepted offer",
         201,
         vec![
             contender(LIBRARY, || run(checker::offer)),
-            contender(BEFORE, || {
-                offers(&known(&start), &room, trace, before::offer, 0)
-            }),
+            contender(BEFORE, || offers(&old, &room, trace, before::offer, 0)),
             contender(TWIN, || run(twin::offer)),
             contender(SOURCE, || source_offers(&[], trace)),
         ],
@@ -100,22 +91,26 @@ fn compare_restores() {
     );
 }
 
+type Burst<S> = fn(&mut S, &mut [u8], &[Command]) -> (u64, Numbers);
+
+/// A round of one burst, for each command.
+fn bursts<S: Copy>(start: &S, room: &RefCell<Vec<u8>>, trace: &[Command], burst: Burst<S>) -> f64 {
+    from_start(start, &mut room.borrow_mut(), trace.len(), |state, room| {
+        assert_all(burst(state, room, trace), trace.len());
+    })
+}
+
 fn compare_bursts(trace: &[Command]) {
-    type Burst = fn(&mut Session, &mut [u8], &[Command]) -> (u64, Numbers);
     let (start, room) = (opened(), room_behind(&opened()));
-    let run = |start: &Session, burst: Burst| {
-        let room = &mut room.borrow_mut();
-        from_start(start, room, trace.len(), |state, room| {
-            assert_all(burst(state, room, trace), trace.len());
-        })
-    };
+    let old = before::Session::of(&start);
+    let run = |burst: Burst<Session>| bursts(&start, &room, trace, burst);
     CHANGE.compare(
         "a command of a burst of 4,096, as structs",
         201,
         vec![
-            contender(LIBRARY, || run(&start, checker::offer_all)),
-            contender(BEFORE, || run(&known(&start), before::offer_all)),
-            contender(TWIN, || run(&start, twin::offer_all)),
+            contender(LIBRARY, || run(checker::offer_all)),
+            contender(BEFORE, || bursts(&old, &room, trace, before::offer_all)),
+            contender(TWIN, || run(twin::offer_all)),
             contender(SOURCE, || source_offers(&[], trace)),
         ],
     );

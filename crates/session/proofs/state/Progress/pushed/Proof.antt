@@ -25,9 +25,14 @@ deeper-requires c κs = search needs
 one-more-requires-2 : tie.Need-one-more-requires-2
 one-more-requires-2 c κs = search needs
 
+banks-after-requires : tie.Need-banks-after-requires
+banks-after-requires c κs = search needs
+
 returns : tie.Need-returns
 unfolding pushedProgress
-returns c = rw (c .one-more2 .ensures, c .before .deeper .ensures, c .before .before .one-more .ensures, c .before .before .before .struct-known .given, c .before .before .before .before .shifted .ensures, c .before .before .before .before .before .before2 .given)
+returns c =
+    let before = c .before .before .before .before in
+    rw (c .banks-after .ensures, c .before .one-more2 .ensures, c .before .before .deeper .ensures, c .before .before .before .one-more .ensures, before .struct-known .given, before .before .shifted .ensures, before .before .before .before2 .given)
 
 pub pushed-spec : {M : Type 1} → statement M
 pushed-spec =
@@ -40,4 +45,5 @@ pushed-spec =
     one-more-requires
     deeper-requires
     one-more-requires-2
+    banks-after-requires
     returns)

@@ -118,12 +118,12 @@ use Rattle.bursts.proofs.taken.write_command as write-command
 use Rattle.bursts.proofs.taken.write_command.Symbol as write-command-def
 use Rattle.bursts.proofs.taken.write_command.Symbol.{name as #bursts·taken·write-command}
 use Rattle.bursts.proofs.taken.write_command.Met as write-command-thm
-use Rattle.capi.proofs.list.rossinhiu_offer_all_4.Key.{name as #capi·list·offer-all}
-use Rattle.capi.proofs.list.rossinhiu_offer_all_4 as offer-all
-use Rattle.capi.proofs.list.rossinhiu_offer_all_4.Statement as stated
-use Rattle.capi.proofs.list.rossinhiu_offer_all_4.Code as code
-use Rattle.capi.proofs.list.rossinhiu_offer_all_4.Code.Mir as mir-of
-use Rattle.capi.proofs.list.rossinhiu_offer_all_4.Proof.Turns.{IsSession, IsOffer, IsTaken, IsBurst, cycle-is, answer-is, command-is, stamp-is, stamp-fits, entry-is, next-is, slots-are, entries-are, lastVal, last-is, roundedVal, rounded-is, opening-is, progress-is, terms-is, records-fit, number-fits, burst-is, none-refused, none-is, no-offer, Turn, Nearer, Nearer-wf, starts, Ends, took-here, none-left, offer, one-refused, is-refused, is-accepted, has-room, Written, next}
+use Rattle.capi.proofs.list.rossinhiu_offer_all_5.Key.{name as #capi·list·offer-all}
+use Rattle.capi.proofs.list.rossinhiu_offer_all_5 as offer-all
+use Rattle.capi.proofs.list.rossinhiu_offer_all_5.Statement as stated
+use Rattle.capi.proofs.list.rossinhiu_offer_all_5.Code as code
+use Rattle.capi.proofs.list.rossinhiu_offer_all_5.Code.Mir as mir-of
+use Rattle.capi.proofs.list.rossinhiu_offer_all_5.Proof.Turns.{IsSession, IsOffer, IsTaken, IsBurst, cycle-is, answer-is, command-is, stamp-is, stamp-fits, entry-is, next-is, slots-are, entries-are, lastVal, last-is, roundedVal, rounded-is, opening-is, progress-is, terms-is, records-fit, number-fits, burst-is, none-refused, none-is, no-offer, Turn, Nearer, Nearer-wf, starts, Ends, took-here, none-left, offer, one-refused, is-refused, is-accepted, has-room, Written, next}
 
 abbrev stayed : Stays (offer-all.ended .signature .params) (offer-all.ended .kept)
 stayed = (stay-none (λ _. S.the-row) yes, (stay-slice (0 ∷ []) tt (slot (λ _. u8)), (stay-none-slice (1 ∷ []) tt (slot (λ _. O.the-row)) yes, tt)))
@@ -586,7 +586,7 @@ module _ {M : Type 1} (𝓤 : URA M) (H : Heap 𝓤) (A : Atoms 𝓤) (W : Given
           -- [the token of the commands; Offers; Journal; its token; _41; …]
           sets ! (of-opd ! (var ! 42 refl)) (init ! 70 refl (LL.lawful O.the-type O′.the-laws 𝓤 H A W .typed (reading t more) _ g .0)) $
           -- what judging reads of the state
-          sets ! (of-opd ! (field-of ! 82 U′.mir 3944 refl refl refl)) (init ! 68 refl (LL.lawful U.the-type U′.the-laws 𝓤 H A W .typed (t .session .terms) _ (terms-is (t .session) (t .is)) .0)) $
+          sets ! (of-opd ! (field-of ! 82 U′.mir 3952 refl refl refl)) (init ! 68 refl (LL.lawful U.the-type U′.the-laws 𝓤 H A W .typed (t .session .terms) _ (terms-is (t .session) (t .is)) .0)) $
           sets ! (of-opd ! (field-of ! 82 P′.mir 3840 refl refl refl)) (init ! 66 refl (LL.lawful P.the-type P′.the-laws 𝓤 H A W .typed (t .session .progress) _ (progress-is (t .session) (t .is)) .0)) $
           sets ! (addr ! (from ! (stop !))) (init ! 40 refl (tt, tt)) $ sets ! (addr ! (from ! (stop !))) (init ! 38 refl (tt, tt)) $ sets ! (addr ! (from ! (stop !))) (init ! 36 refl (tt, tt)) $
           asks t more g))
@@ -625,7 +625,7 @@ module _ {M : Type 1} (𝓤 : URA M) (H : Heap 𝓤) (A : Atoms 𝓤) (W : Given
         split ! $ move ! (1 ∷ []) $ heard ! (r ≡ most) (λ e. drop ! $ split ! $ drop ! $ peeks ! u64 (Is u64) (shows 𝓤 H A u64) r (w ∷ []) (λ is.
         land ! (from ! (stop !)) (init ! 81 refl (uint-lawful 𝓤 H A W w64 .typed r _ is .0)) $ rewrite ! 81 (λ (u : Val). ‵ (fat fullShare (tyInt w64) l₅ 0 u)) (ap only (is .0) ∙ ap (vint w64) e) refl $ drop ! $
         -- the table, the steps and the stamps' numbers are made
-        sets ! (of-opd ! (load ! (from ! (into ! U′.mir 3944 refl (into ! Q′.mir 200 refl (stop !)))) (look-in ! 82 (within ! 2 Q′.mir 200 refl (within ! 3 U′.mir 3944 refl (whole !))))))
+        sets ! (of-opd ! (load ! (from ! (into ! U′.mir 3952 refl (into ! Q′.mir 200 refl (stop !)))) (look-in ! 82 (within ! 2 Q′.mir 200 refl (within ! 3 U′.mir 3952 refl (whole !))))))
         (init ! 58 refl (LL.lawful Q.the-type Q′.the-laws 𝓤 H A W .typed (s₀ .terms .opening) _ (opening-is s₀ is₀) .0)) $
         use0 W (raw (Tabled 𝓤 H A at-mem run .pre to-table)) goes-table $ calls-at ! fm (Tabled 𝓤 H A at-mem run) tables-made to-table (and-then ! (var ! 59 refl) (no-more !)) (λ w₁.
         use1 W (later (some-of (λ (r : List ℕ). (‵ ftrue ⊛ ‵ (Numbers w8 147 .own r (w₁ ∷ []))) ⊛ raw (ensured 𝓤 H A table.ended (table.clauses 𝓤 H A at-mem run) tt (s₀ .terms .opening, tt) tt r)))) (id⊢ 𝓤 _) $ await ! tt $ pick ! (λ tab.
@@ -633,7 +633,7 @@ module _ {M : Type 1} (𝓤 : URA M) (H : Heap 𝓤) (A : Atoms 𝓤) (W : Given
         split ! $ move ! (1 ∷ []) $ heard ! (tab ≡ layerOf (s₀ .terms .opening)) (λ tab-is. drop ! $ split ! $ drop ! $ peeks ! (Numbers w8 147) (Is (Numbers w8 147)) (shows 𝓤 H A (Numbers w8 147)) tab (w₁ ∷ []) (λ is-tab.
         land ! (from ! (stop !)) (init ! 61 refl (array-lawful 𝓤 H A W u8 (uint-lawful 𝓤 H A W w8) 147 .typed tab _ is-tab .0)) $ rewrite ! 61 (λ (u : Val). ‵ (fat fullShare (tyArray (tyInt w8) 147) l₁₅ 0 u)) (ap only (numbers-tell w8 147 tab _ is-tab)) refl $ drop ! $
         sets ! (of-opd ! (var ! 60 refl)) (init ! 78 refl (array-lawful 𝓤 H A W u8 (uint-lawful 𝓤 H A W w8) 147 .typed tab _ (kept w8 147 tab _ is-tab) .0)) $
-        sets ! (of-opd ! (load ! (from ! (into ! U′.mir 3944 refl (into ! (tyArray Y′.mir 20) 0 refl (stop !)))) (look-in ! 82 (within ! 0 (tyArray Y′.mir 20) 0 refl (within ! 3 U′.mir 3944 refl (whole !))))))
+        sets ! (of-opd ! (load ! (from ! (into ! U′.mir 3952 refl (into ! (tyArray Y′.mir 20) 0 refl (stop !)))) (look-in ! 82 (within ! 0 (tyArray Y′.mir 20) 0 refl (within ! 3 U′.mir 3952 refl (whole !))))))
         (init ! 54 refl (array-lawful 𝓤 H A W Y.the-row (LL.lawful Y.the-type Y′.the-laws 𝓤 H A W) 20 .typed (s₀ .terms .rounded) _ (rounded-is s₀ is₀) .0)) $
         use0 W (raw (Stepped 𝓤 H A at-mem run .pre to-steps)) goes-steps $ calls-at ! fm (Stepped 𝓤 H A at-mem run) stepped to-steps (and-then ! (var ! 55 refl) (no-more !)) (λ w₂.
         use1 W (later (some-of (λ (r : List ℕ). (‵ ftrue ⊛ ‵ (Numbers w64 21 .own r (w₂ ∷ []))) ⊛ raw (ensured 𝓤 H A gap-steps.ended (gap-steps.clauses 𝓤 H A at-mem run) tt (s₀ .terms .rounded, tt) tt r)))) (id⊢ 𝓤 _) $ await ! tt $ pick ! (λ steps.
@@ -672,9 +672,9 @@ module _ {M : Type 1} (𝓤 : URA M) (H : Heap 𝓤) (A : Atoms 𝓤) (W : Given
       (goes-none 𝓤 H A W 2 (λ _. S.the-row) yes (λ κs x f. refl), (goes-slice 𝓤 H A W 2 0 tt (slot (λ _. u8)), (goes-none-slice 𝓤 H A W 2 (1 ∷ []) tt (slot (λ _. O.the-row)) yes, tt)))
       (offer-all.clauses 𝓤 H A at-mem run) (WpFn 𝓤 H (𝓣 .C) (𝓣 .Λ) code.function) (WpFn-mono 𝓤 H (W .laws) 𝓣 code.function) walks
 
-pub rossinhiu-offer-all-4-spec : {M : Type 1} → stated.statement M
+pub rossinhiu-offer-all-5-spec : {M : Type 1} → stated.statement M
 unfolding code.routine tablesOf
-rossinhiu-offer-all-4-spec 𝓤 H 𝓜 𝓖 𝓡 =
+rossinhiu-offer-all-5-spec 𝓤 H 𝓜 𝓖 𝓡 =
     entered 𝓤 H (tripleOf 𝓤 H (𝓖 .A) offer-all.signature (offer-all.spec 𝓤 H (𝓖 .A) (𝓜 .mem) (𝓡 .run)))
     (tables 𝓤 H 𝓜 𝓡 code.env .C) (tables 𝓤 H 𝓜 𝓡 code.env .Λ) #capi·list·offer-all code.function (code.unfolded 𝓤 H 𝓜 𝓡)
     (meets 𝓤 H (𝓖 .A) (givenOf 𝓤 H 𝓜 𝓖) (𝓜 .mem) (𝓡 .run) (tablesOf 𝓤 H 𝓜 (tables 𝓤 H 𝓜 𝓡 code.env))

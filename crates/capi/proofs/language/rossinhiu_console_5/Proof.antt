@@ -1,9 +1,9 @@
--- `rossinhiu_console_4` meets its contract: the library's own response, its answer as text.
+-- `rossinhiu_console_5` meets its contract: the library's own response, its answer as text.
 use mathlib.Core.Path.{refl}
 use borrow.Author.Needs.{needs}
 use Rattle.capi.proofs.LanguageLaws.{asked-comes}
-use Rattle.capi.proofs.language.rossinhiu_console_4.Statement.{statement}
-use Rattle.capi.proofs.language.rossinhiu_console_4.Tie as tie
+use Rattle.capi.proofs.language.rossinhiu_console_5.Statement.{statement}
+use Rattle.capi.proofs.language.rossinhiu_console_5.Tie as tie
 
 returns : tie.Need-returns
 returns c =
@@ -21,7 +21,7 @@ returns c =
       count = refl;
     }
 
-pub rossinhiu-console-4-spec : {M : Type 1} → statement M
-rossinhiu-console-4-spec =
+pub rossinhiu-console-5-spec : {M : Type 1} → statement M
+rossinhiu-console-5-spec =
     tie.close
     (tie.spec (λ c κs. search needs) (λ c κs. search needs) (λ c κs. search needs) (λ c κs. search needs) (λ c. search needs) (λ c. search needs) returns)
