@@ -55,18 +55,27 @@ def comment(text, names):
     return re.sub(r"(?<![`\w])take_back(?![`\w])", "take-back", text)
 
 
-def code(line, names, mark):
-    """One line: its code, its strings left alone, and its comment."""
-    at, strings = 0, False
-    while at < len(line):
-        if line[at] == '"' and line[at - 1 : at] != "\\":
-            strings = not strings
-        if not strings and line.startswith(mark, at) and (at == 0 or line[at - 1] in " \t"):
-            break
-        at += 1
-    parts = re.split(r'("(?:[^"\\]|\\.)*")', line[:at])
-    head = "".join(p if p.startswith('"') else turned(p, names) for p in parts)
-    return head + comment(line[at:], names)
+def code(text, names, mark):
+    """A file: its code, its strings left alone (also over several lines), and its comments."""
+    out, at, start = [], 0, 0
+    while at < len(text):
+        if text[at] == '"':
+            out.append(turned(text[start:at], names))
+            end = at + 1
+            while end < len(text) and text[end] != '"':
+                end += 2 if text[end] == "\\" else 1
+            out.append(text[at : end + 1])
+            at = start = end + 1
+        elif text.startswith(mark, at) and (at == 0 or text[at - 1] in " \t\n"):
+            out.append(turned(text[start:at], names))
+            end = text.find("\n", at)
+            end = len(text) if end < 0 else end
+            out.append(comment(text[at:end], names))
+            at = start = end
+        else:
+            at += 1
+    out.append(turned(text[start:], names))
+    return "".join(out)
 
 
 def edit(text, names):
@@ -104,7 +113,7 @@ def main():
             new = edit(text, names)
         else:
             mark = "--" if path.endswith(".antt") else "//"
-            new = "\n".join(code(line, names, mark) for line in text.split("\n"))
+            new = code(text, names, mark)
         if new != text:
             changed += 1
             with open(path, "w", encoding="utf-8") as f:

@@ -77,7 +77,7 @@ fn print_gaps() {
     io::write_all(
         STDOUT_FILENO,
         b"GAP: 1 tRC  2 tRRD  3 tRCD  4 tRAS  5 tCCD  6 tCCD_L  7 tCCD_S  8 tRDWR  9 tRTP  10 tWRRD  11 tWRRD_L
-     12 tWRRD_S  13 tWRPRE  14 tRPpb  15 tRPab  16 tPPD  17 tRFCab  18 tRFCpb  19 tPBR2PBR  20 t_fAW  0 none
+     12 tWRRD_S  13 tWRPRE  14 tRPpb  15 tRPab  16 tPPD  17 tRFCab  18 tRFCpb  19 tPBR2PBR  20 tFAW  0 none
 ",
     );
 }

@@ -1,4 +1,6 @@
 // Plays a trace, written as text, into the checker, and prints each answer.
+#![tactic(auto)]
+
 ghost use Rattle.std.specs.Prelude.{◌≡◌, length};
 
 use console::say::{Said, numbered};

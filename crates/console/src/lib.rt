@@ -1,4 +1,6 @@
 // The console's text language: lines taken out of what was read, requests taken out of lines, and the answers as text.
+#![tactic(auto)]
+
 pub mod lines;
 pub mod output;
 pub mod respond;

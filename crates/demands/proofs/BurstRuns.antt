@@ -7,7 +7,7 @@ use Rattle.history.specs.Answers.{Reply, plain}
 use Rattle.session.specs.declared.state.Session.{Session}
 use Rattle.journal.specs.declared.records.Offer.{Offer}
 use Rattle.statements.specs.Calls.{Does, calls, replied, by_call}
-use Rattle.statements.specs.Bursts.{over, Burst, in_aRow, Bursts, InARow, none_left, one_refused, one_accepted}
+use Rattle.statements.specs.Bursts.{over, Burst, in_a_row, Bursts, InARow, none_left, one_refused, one_accepted}
 use Rattle.statements.proofs.BurstLaws.{accepted_reply, burst_is_offers}
 use Rattle.demands.specs.Runs.{Event, Run, starts, resumes, moves, fails}
 use Rattle.demands.specs.Reached.{Reached, by_call as reached-by-call}
@@ -41,7 +41,7 @@ burst_determined p q =
 
 -- an empty list is accepted with 0, whatever the state, and changes nothing
 pub empty_burst : {s next : Session} {lent bytes : List ℕ} {n : ℕ} {reply : Reply} → Bursts s lent [] n reply next bytes → (n ≡ 0) × (reply ≡ plain 0) × (next ≡ s) × (bytes ≡ lent)
-unfolding in_aRow
+unfolding in_a_row
 empty_burst p =
     let same = p.exact in
     (ap (λ (b : Burst Session). b.count) same, ap (λ (b : Burst Session). b.reply) same, ap (λ (b : Burst Session). b.left.what) same, ap (λ (b : Burst Session). b.left.journal) same)

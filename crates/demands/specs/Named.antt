@@ -12,7 +12,7 @@ use Rattle.statements.specs.Calls.{Move, calls, asks_earliest, asks_status, Hear
 abbrev pub blank : List ℕ
 blank = zeros 640
 
--- settings A of client 7, with t_fAW 40; and client 9's
+-- settings A of client 7, with t_faw 40; and client 9's
 abbrev pub client7 : Settings
 client7 = settings_in newest 4 0 (changed 20 40 gaps_a)
 

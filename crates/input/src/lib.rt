@@ -1,4 +1,6 @@
 // Standard input and files read so that a failed read is told from the end. A read that a signal interrupts is made again.
+#![tactic(auto)]
+
 ghost use Rattle.io.specs.Counts.{IsPrefixLen};
 
 use libc::EINTR;

@@ -1,4 +1,6 @@
 // Judging: a command by document 01's lines, and a stored record on the state.
+#![tactic(auto)]
+
 pub mod answers;
 pub mod judge;
 pub mod take;

@@ -1,4 +1,6 @@
 // Standard input to standard output: the listing of a journal.
+#![tactic(auto)]
+
 ghost use Rattle.std.specs.Prelude.{◌≡◌, length};
 
 use input::{Got, read_full};

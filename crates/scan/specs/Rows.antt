@@ -5,7 +5,7 @@ use Rattle.timing.specs.declared.kinds.CommandKind.{CommandKind}
 use Rattle.timing.specs.declared.kinds.CommandKind.TheVariants.{Act}
 use Rattle.timing.specs.declared.rules.Command.{Command}
 use Rattle.timing.specs.declared.rules.Opening.{Opening}
-use Rattle.timing.specs.Earliest.{t_fAW}
+use Rattle.timing.specs.Earliest.{t_faw}
 use Rattle.timing.specs.Kinds.{code_of, same_kind}
 use Rattle.timing.specs.Rules.{nearness, class_for, table_gap, kind_at}
 use Rattle.timing.specs.Table.{layer_of}
@@ -60,7 +60,7 @@ fourth_for activates c = stamp_at activates (c.rank % 2 * 4 + 3)
 -- the larger ask of the cycle after the last survivor and of the fourth activate; and the largest with those of the rank's rows
 abbrev pub known_ask : List ℕ → Progress → Command → ℕ
 known_ask steps p c =
-    max (read_back p.latest.0 * 32 + 31) (cond (same_kind c.kind Act) (ask_of (read_back (fourth_for p.activates c).0) (get_or steps t_fAW 0)) 0)
+    max (read_back p.latest.0 * 32 + 31) (cond (same_kind c.kind Act) (ask_of (read_back (fourth_for p.activates c).0) (get_or steps t_faw 0)) 0)
 
 abbrev pub lent_ask : List ℕ → List ℕ → Opening → CommandKind → ℕ → ℕ → ℕ
 lent_ask steps last o second spot known = max known (rank_ask steps last o second spot)

@@ -8,7 +8,7 @@ use Rattle.timing.specs.declared.rules.Opening.{Opening}
 use Rattle.timing.specs.declared.rules.Command.{Command}
 use Rattle.timing.specs.Kinds.{same_kind}
 use Rattle.timing.specs.Rules.{nearness, class_for, table_gap, kind_at}
-use Rattle.timing.specs.Earliest.{Ask, t_fAW}
+use Rattle.timing.specs.Earliest.{Ask, t_faw}
 use Rattle.scan.specs.declared.earliest.Earliest.{Earliest}
 use Rattle.session.specs.declared.stamps.Stamp.{Stamp}
 use Rattle.session.specs.declared.state.Progress.{Progress}
@@ -52,7 +52,7 @@ scan_to last steps o base bank best (suc n) = max (scan_to last steps o base ban
 -- the fourth activate of the rank, for an ACT
 abbrev pub four_of : List Stamp → List ControllerCycles → CommandKind → ℕ → ℕ
 four_of activates rounded kind rank =
-    cond (same_kind kind Act) (ask_of (read_back (stamp_at activates (rank * 4 + 3)).0) (step_of rounded t_fAW)) 0
+    cond (same_kind kind Act) (ask_of (read_back (stamp_at activates (rank * 4 + 3)).0) (step_of rounded t_faw)) 0
 
 -- the largest ask: of the cycle after the last survivor, of the rank's last stamps, of its fourth activate
 unfoldable pub largest_ask : List Stamp → Terms → Progress → Command → ℕ

@@ -1,4 +1,6 @@
 // What the arrays ask for: the earliest cycle of a command, and the gap that asks for it.
+#![tactic(auto)]
+
 pub mod asks;
 pub mod earliest;
 pub mod rows;

@@ -1,4 +1,6 @@
 // One session in compact arrays.
+#![tactic(auto)]
+
 pub mod banks;
 pub mod changes;
 pub mod stamps;

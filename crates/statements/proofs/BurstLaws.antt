@@ -24,7 +24,7 @@ use Rattle.journal.proofs.PieceLaws.{from, piece}
 use Rattle.judging.specs.Judged.{after_of, early_in, wrong_in, settings_by, is_closed, taken_state}
 use Rattle.statements.specs.Exact.{offer_in_case, offer_in, state_after, Left}
 use Rattle.statements.specs.Rep.{Rep}
-use Rattle.statements.specs.Bursts.{Over, over, Burst, ended, goes_on, in_aRow, verdict_in, after_in, burst_in, after_on, burst_on, Means, Bursts, OffersOne, InARow, none_left, one_refused, one_accepted}
+use Rattle.statements.specs.Bursts.{Over, over, Burst, ended, goes_on, in_a_row, verdict_in, after_in, burst_in, after_on, burst_on, Means, Bursts, OffersOne, InARow, none_left, one_refused, one_accepted}
 use Rattle.statements.proofs.CalledLaws.{called_left}
 use Rattle.statements.proofs.MeansLaws.{offer_means}
 use Rattle.statements.proofs.RestoreLaws.{pieces_on}
@@ -90,7 +90,7 @@ abbrev Row : List Offer → Session → List ℕ → Burst Session → Type 0
 Row os s lent b = InARow os s lent b.count b.reply b.left.what b.left.journal
 
 row : (os : List Offer) (s : Session) (lent : List ℕ) → Row os s lent (burst_in (over s lent) os)
-unfolding in_aRow
+unfolding in_a_row
 row [] s lent = none_left
 row (o ∷ os) s lent = go (here s lent o) refl (row os)
   where
@@ -102,7 +102,7 @@ row (o ∷ os) s lent = go (here s lent o) refl (row os)
 
 -- and the other way round
 counted : {os : List Offer} {s next : Session} {lent bytes : List ℕ} {n : ℕ} {r : Reply} → InARow os s lent n r next bytes → ended n r (over next bytes) ≡ burst_in (over s lent) os
-unfolding in_aRow
+unfolding in_a_row
 counted none_left = refl
 counted (one_refused {o = o} {os = os} {s = s} {next = next} {lent = lent} {bytes = bytes} {r = r} p some) = go (here s lent o) (here_numbered s lent o) p.exact
   where
@@ -121,7 +121,7 @@ counted (one_accepted {o = o} {os = os} {s = s} {mid = mid} {next = next} {lent 
 -- ---- on every history that the state stands for
 
 means : (os : List Offer) (s : Session) (lent : List ℕ) (h : History) → Rep s h → Means (burst_in (over s lent) os) (burst_on (over h lent) os)
-unfolding in_aRow
+unfolding in_a_row
 means [] s lent h rep = record { count = refl; reply = refl; state = rep; written = refl }
 means (o ∷ os) s lent h rep =
     let v = here s lent o in
@@ -175,12 +175,12 @@ module _ (s₀ : Session) (lent : List ℕ) (os : List Offer) where
 
   module _ (s : Session) (j : List ℕ) (n : ℕ) where
     pub bursting_end : Bursting s j n [] → ended n (plain 0) (over s j) ≡ burst_in (over s₀ lent) os
-    unfolding Bursting in_aRow
+    unfolding Bursting in_a_row
     bursting_end same = first n (plain 0) (over s j) ∙ same
 
     module _ (o : Offer) (rest : List Offer) (same : Bursting s j n (o ∷ rest)) where
       turn : (v : Verdict) → here s j o ≡ v → behind n (goes_on (over s j) v (burst_in (after_in (over s j) v) rest)) ≡ burst_in (over s₀ lent) os
-      unfolding Bursting in_aRow
+      unfolding Bursting in_a_row
       turn v e = rw e at same
 
       pub bursting_refused : (r : Reply) → verdict_in (over s j) o ≡ refused r → ended n r (over s j) ≡ burst_in (over s₀ lent) os

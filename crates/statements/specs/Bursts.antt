@@ -32,9 +32,9 @@ goes_on x (refused r) rest = ended 0 r x
 goes_on x (accepted r e) rest = ended (rest.count + 1) rest.reply rest.left
 
 -- offers in a row: the verdict on one, and what it leaves
-unfoldable pub in_aRow : {A : Type 0} → (Over A → Offer → Verdict) → (Over A → Verdict → Over A) → Over A → List Offer → Burst A
-in_aRow verdict after x [] = ended 0 (plain 0) x
-in_aRow verdict after x (o ∷ os) = goes_on x (verdict x o) (in_aRow verdict after (after x (verdict x o)) os)
+unfoldable pub in_a_row : {A : Type 0} → (Over A → Offer → Verdict) → (Over A → Verdict → Over A) → Over A → List Offer → Burst A
+in_a_row verdict after x [] = ended 0 (plain 0) x
+in_a_row verdict after x (o ∷ os) = goes_on x (verdict x o) (in_a_row verdict after (after x (verdict x o)) os)
 
 -- for every state value
 abbrev pub verdict_in : Over Session → Offer → Verdict
@@ -44,7 +44,7 @@ abbrev pub after_in : Over Session → Verdict → Over Session
 after_in x v = over (state_after x.what v) (bytes_after x.journal x.what.progress.records v)
 
 abbrev pub burst_in : Over Session → List Offer → Burst Session
-burst_in x os = in_aRow verdict_in after_in x os
+burst_in x os = in_a_row verdict_in after_in x os
 
 -- on a history: document 01's answers one after the other
 abbrev pub verdict_on : Over History → Offer → Verdict
@@ -54,7 +54,7 @@ abbrev pub after_on : Over History → Verdict → Over History
 after_on x v = over (next_of x.what v) (bytes_after x.journal (length x.what) v)
 
 abbrev pub burst_on : Over History → List Offer → Burst History
-burst_on x os = in_aRow verdict_on after_on x os
+burst_on x os = in_a_row verdict_on after_on x os
 
 -- a burst of this state, for a history that the state stands for
 pub record Means (b : Burst Session) (d : Burst History) : Type 0 where

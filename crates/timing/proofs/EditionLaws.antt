@@ -1,15 +1,14 @@
 -- Later editions include earlier ones: what binds in an edition binds in every later one, so what is legal in a later one is legal in the earlier.
-use mathlib.Core.Path.{◌≡◌, refl}
 use mathlib.Core.Logic.{⊎_elim, inl, inr}
-use mathlib.Core.Bool.{Bool, ◌&&◌}
+use mathlib.Core.Bool.{◌&&◌}
 use Prim.Native.Nat.{ℕ, ◌≤◌}
 use native.Mathlib.Omega.{arith}
 use lib.Dec.{T, eqb, leb}
 use borrow.Author.Tests.{leb-true, le-leb}
 use Rattle.timing.specs.declared.rules.Opening.{Opening}
 use Rattle.timing.specs.declared.rules.Command.{Command}
-use Rattle.timing.specs.Rules.{Rule, names, covers, class_of, matches, binds}
-use Rattle.timing.specs.Earliest.{Settings, Standing, reach, AsksFor, ByPair, ByFour, Legal}
+use Rattle.timing.specs.Rules.{Rule, names, covers, class_of, binds}
+use Rattle.timing.specs.Earliest.{Standing, reach, AsksFor, ByPair, ByFour, Legal}
 use Rattle.timing.proofs.Truth.{and_left, and_right, both, true_is, is_true}
 
 -- the same opening, settings or session in another edition

@@ -14,7 +14,7 @@ use Rattle.timing.specs.declared.rules.Opening.{Opening}
 use Rattle.timing.specs.declared.rules.Command.{Command}
 use Rattle.timing.specs.Kinds.{same_kind}
 use Rattle.timing.specs.Rules.{Rule, rules, class_of, matches, binds, matching}
-use Rattle.timing.specs.Earliest.{Stamped, Standing, Ask, ByPair, ByFour, NthAct, newest, behind_act, behind_other, AsksFor, LaterThanLast, Legal, NamedGap, t_fAW, reach, cycle_after, floor, is_act, ask_by, pair_asks, acts, fourth_act, four_asks, asks, later, latest, earliest}
+use Rattle.timing.specs.Earliest.{Stamped, Standing, Ask, ByPair, ByFour, NthAct, newest, behind_act, behind_other, AsksFor, LaterThanLast, Legal, NamedGap, t_faw, reach, cycle_after, floor, is_act, ask_by, pair_asks, acts, fourth_act, four_asks, asks, latest, earliest}
 use Rattle.timing.proofs.AskLaws.{◌≼◌, ask_path, latest_above_first, latest_above, latest_one}
 use Rattle.timing.proofs.TableLaws.{numbers_within, all_numbered}
 use Rattle.timing.proofs.Truth.{and_left, and_right, both, true_is, false_is, is_true}
@@ -124,14 +124,14 @@ module _ (st : Standing) (c : Command) where
       (λ (m' : Memᴰ a (pair_asks st c ys)). let w = pairs_out ys m' in (w.0, mathlib.Core.List.Memᴰ.tail w.1, w.2)) (mathlib.Core.List.Memᴰ.append_cases (here y) m)
 
 -- the n-th ACT, as it is counted and as it is computed
-pub nth_in : (rank n : ℕ) (xs : List Stamped) {x : Stamped} → NthAct rank x n xs → (m : ℕ) × (n ≡ suc m) × Memᴰ x (take 1 (drop m (acts rank xs)))
+pub nth_in : (rank : ℕ) {x : Stamped} (n : ℕ) (xs : List Stamped) → NthAct rank x n xs → (m : ℕ) × (n ≡ suc m) × Memᴰ x (take 1 (drop m (acts rank xs)))
 unfolding acts
-nth_in rank n xs {x} (newest {y = y} {ys = ys} h e) =
+nth_in rank {x} n xs (newest {y = y} {ys = ys} h e) =
     (0, refl, subst (λ (t : Bool). Memᴰ x (take 1 (drop 0 (cond t (y ∷ acts rank ys) (acts rank ys))))) (sym (true_is (is_act rank y) h)) (mathlib.Core.List.Memᴰ.head e))
-nth_in rank n xs {x} (behind_act {n = k} {y = y} {ys = ys} h p) =
+nth_in rank {x} n xs (behind_act {n = k} {y = y} {ys = ys} h p) =
     let w = nth_in rank k ys p in
     (suc w.0, ap suc w.1, subst (λ (t : Bool). Memᴰ x (take 1 (drop (suc w.0) (cond t (y ∷ acts rank ys) (acts rank ys))))) (sym (true_is (is_act rank y) h)) w.2)
-nth_in rank n xs {x} (behind_other {y = y} {ys = ys} h p) =
+nth_in rank {x} n xs (behind_other {y = y} {ys = ys} h p) =
     let w = nth_in rank n ys p in
     (w.0, w.1, subst (λ (t : Bool). Memᴰ x (take 1 (drop w.0 (cond t (y ∷ acts rank ys) (acts rank ys))))) (sym (false_is (is_act rank y) h)) w.2)
 
@@ -159,24 +159,24 @@ module _ (st : Standing) (c : Command) where
       let w = nth_in c.rank 4 st.survivors p.fourth in
       let three : w.0 ≡ 3 = omega (arith, w.1) in
       mathlib.Core.List.Memᴰ.append_right (pair_asks st c st.survivors)
-      (mathlib.Core.List.Memᴰ.cast (ask_path (record { cycle = u; gap = n }) (ask_by st p.survivor t_fAW) (sym p.asks ∙ ap (reach st p.survivor) (sym p.number)) (sym p.number))
+      (mathlib.Core.List.Memᴰ.cast (ask_path (record { cycle = u; gap = n }) (ask_by st p.survivor t_faw) (sym p.asks ∙ ap (reach st p.survivor) (sym p.number)) (sym p.number))
       (four_in p.survivor p.activates (subst (λ (m : ℕ). Memᴰ p.survivor (take 1 (drop m (acts c.rank st.survivors)))) three w.2)))
     where
-      four_in : (x : Stamped) → T (same_kind c.kind Act) → Memᴰ x (fourth_act c.rank st.survivors) → Memᴰ (ask_by st x t_fAW) (four_asks st c)
+      four_in : (x : Stamped) → T (same_kind c.kind Act) → Memᴰ x (fourth_act c.rank st.survivors) → Memᴰ (ask_by st x t_faw) (four_asks st c)
       four_in x h m =
-          subst (λ (t : Bool). Memᴰ (ask_by st x t_fAW) (cond t (map (λ y. ask_by st y t_fAW) (fourth_act c.rank st.survivors)) []))
-          (sym (true_is (same_kind c.kind Act) h)) (map_in (λ y. ask_by st y t_fAW) (fourth_act c.rank st.survivors) m)
+          subst (λ (t : Bool). Memᴰ (ask_by st x t_faw) (cond t (map (λ y. ask_by st y t_faw) (fourth_act c.rank st.survivors)) []))
+          (sym (true_is (same_kind c.kind Act) h)) (map_in (λ y. ask_by st y t_faw) (fourth_act c.rank st.survivors) m)
 
   four_out : {a : Ask} → Memᴰ a (four_asks st c) → ByFour st c a.gap a.cycle
   unfolding four_asks
   four_out {a} m = go (same_kind c.kind Act) refl m
     where
-      go : (t : Bool) → same_kind c.kind Act ≡ t → Memᴰ a (cond t (map (λ x. ask_by st x t_fAW) (fourth_act c.rank st.survivors)) [])
+      go : (t : Bool) → same_kind c.kind Act ≡ t → Memᴰ a (cond t (map (λ x. ask_by st x t_faw) (fourth_act c.rank st.survivors)) [])
           → ByFour st c a.gap a.cycle
       go true e m =
-          let w = map_out (λ x. ask_by st x t_fAW) (fourth_act c.rank st.survivors) m in
-          let eg : a.gap ≡ t_fAW = ap (λ (k : Ask). k.gap) w.2 in
-          let ec : a.cycle ≡ reach st w.0 t_fAW = ap (λ (k : Ask). k.cycle) w.2 in
+          let w = map_out (λ x. ask_by st x t_faw) (fourth_act c.rank st.survivors) m in
+          let eg : a.gap ≡ t_faw = ap (λ (k : Ask). k.gap) w.2 in
+          let ec : a.cycle ≡ reach st w.0 t_faw = ap (λ (k : Ask). k.cycle) w.2 in
           record {
             activates = is_true (same_kind c.kind Act) e;
             survivor = w.0;

@@ -15,7 +15,7 @@ use Rattle.timing.specs.Editions.{bank_states, has}
 use Rattle.timing.specs.Kinds.{same_kind}
 use Rattle.timing.specs.Clocks.{ceil_div}
 use Rattle.timing.specs.Rules.{binds}
-use Rattle.timing.specs.Earliest.{Stamped, Standing, gap_of, reach, is_act, cycle_after, floor, ByPair, ByFour, NthAct, newest, behind_act, behind_other, AsksFor, LaterThanLast, Legal, earliest}
+use Rattle.timing.specs.Earliest.{Stamped, Standing, gap_of, reach, cycle_after, floor, ByPair, ByFour, NthAct, newest, behind_act, behind_other, AsksFor, LaterThanLast, Legal, earliest}
 use Rattle.timing.specs.Scaled.{times_ratio, standing_one}
 use Rattle.timing.proofs.Legal.{map_in, map_out, legal_from}
 use Rattle.timing.proofs.Rounding.{rounding_lasts, rounding_least}
@@ -45,12 +45,13 @@ module _ (r : ℕ) (above : 0 < r) where
       omega (arith, rounding_least r above g (t - x) (omega (arith, l, parts)))
 
   -- the n-th ACT
-  nth_in : {rank n : ℕ} {x : Stamped} {xs : List Stamped} → NthAct rank x n xs → NthAct rank (times_ratio r x) n (map (times_ratio r) xs)
+  nth_in : {rank : ℕ} {x : Stamped} {n : ℕ} {xs : List Stamped} → NthAct rank x n xs → NthAct rank (times_ratio r x) n (map (times_ratio r) xs)
   nth_in (newest t e) = newest t (ap (times_ratio r) e)
   nth_in (behind_act t more) = behind_act t (nth_in more)
   nth_in (behind_other t more) = behind_other t (nth_in more)
 
-  nth_out : {rank n : ℕ} {y : Stamped} (xs : List Stamped) → NthAct rank y n (map (times_ratio r) xs) → (x : Stamped) × (y ≡ times_ratio r x) × NthAct rank x n xs
+  nth_out : {rank : ℕ} {y : Stamped} {n : ℕ} (xs : List Stamped) → NthAct rank y n (map (times_ratio r) xs) → (x : Stamped) × (y ≡ times_ratio r x) × NthAct rank x n xs
+  nth_out {rank = rank} {y = y} {n = n} [] x' = elim x' [ ]
   nth_out (x ∷ xs) (newest t e) = (x, e, newest t refl)
   nth_out (x ∷ xs) (behind_act t more) = let w = nth_out xs more in (w.0, w.1, behind_act t w.2)
   nth_out (x ∷ xs) (behind_other t more) = let w = nth_out xs more in (w.0, w.1, behind_other t w.2)

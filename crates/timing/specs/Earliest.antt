@@ -32,8 +32,8 @@ gap_of s n = get_or s.gaps (n - 1) (record { 0 = 0 })
 abbrev pub loss_of : Settings → ℕ → ℕ
 loss_of s n = cond (eqb n 0) 0 (lost s.opening (gap_of s n))
 
-abbrev pub t_fAW : ℕ
-t_fAW = 20
+abbrev pub t_faw : ℕ
+t_faw = 20
 
 -- the first cycle that lies at least the rounded gap n after a stamped command
 unfoldable pub reach : Standing → Stamped → ℕ → ℕ
@@ -71,7 +71,7 @@ pub record ByFour (st : Standing) (c : Command) (n u : ℕ) : Type 0 where
   pub activates : T (same_kind c.kind Act)
   pub survivor : Stamped
   pub fourth : NthAct c.rank survivor 4 st.survivors
-  pub number : t_fAW ≡ n
+  pub number : t_faw ≡ n
   pub asks : reach st survivor n ≡ u
 
 abbrev pub AsksFor : Standing → Command → ℕ → ℕ → Type 0
@@ -113,7 +113,7 @@ abbrev pub fourth_act : ℕ → List Stamped → List Stamped
 fourth_act rank xs = take 1 (drop 3 (acts rank xs))
 
 unfoldable pub four_asks : Standing → Command → List Ask
-four_asks st c = cond (same_kind c.kind Act) (map (λ x. ask_by st x t_fAW) (fourth_act c.rank st.survivors)) []
+four_asks st c = cond (same_kind c.kind Act) (map (λ x. ask_by st x t_faw) (fourth_act c.rank st.survivors)) []
 
 unfoldable pub asks : Standing → Command → List Ask
 asks st c = pair_asks st c st.survivors ++ four_asks st c
