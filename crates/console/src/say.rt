@@ -14,7 +14,7 @@ use text::lines::Line;
 use timing::clocks::DramCycles;
 
 // The first `count` numbers are said, and behind them `hex_count` bytes of the journal from a place on.
-#[derive(Drop)]
+#[derive(Clone, Copy)]
 pub struct Said {
     pub row: usize,
     pub count: usize,

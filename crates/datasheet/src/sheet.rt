@@ -5,7 +5,7 @@ ghost use Rattle.datasheet.specs.Sheet.{last_tck, tck_in_range, judged_at, zeros
 use timing::clocks::DramCycles;
 
 #[repr(C)]
-#[derive(Drop)]
+#[derive(Clone, Copy)]
 pub struct Picoseconds(pub u64);
 
 // A time out of range, or a gap above 65,535, is a fault.
