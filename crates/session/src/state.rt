@@ -18,7 +18,7 @@ pub const MAX_DEPTH: usize = 64;
 // What a take-back must put back: the slot of the command taken back, the banks that were open before it, the stamp that stood at the
 // slot, the activate that it pushed out of the four, and the stamp of the survivor before it.
 #[repr(C)]
-#[derive(Drop)]
+#[derive(Clone, Copy)]
 pub struct Entry {
     pub slot: u32,
     pub open_banks: u32,
@@ -29,7 +29,7 @@ pub struct Entry {
 
 // How far the session has come: what each record changes.
 #[repr(C)]
-#[derive(Drop)]
+#[derive(Clone, Copy)]
 pub struct Progress {
     // The four latest activates of each rank, newest first.
     pub activates: [Stamp; 8],
@@ -47,7 +47,7 @@ pub struct Progress {
 
 // What the client gave: only an opening changes it.
 #[repr(C)]
-#[derive(Drop)]
+#[derive(Clone, Copy)]
 pub struct Terms {
     // The twenty gaps in controller cycles, rounded once at the opening, and as they were given.
     pub rounded: [ControllerCycles; 20],
@@ -60,7 +60,7 @@ pub struct Terms {
 }
 
 #[repr(C)]
-#[derive(Drop)]
+#[derive(Clone, Copy)]
 pub struct Session {
     // The last stamp of each rank, kind and bank.
     pub last: [Stamp; SLOTS],

@@ -5,15 +5,15 @@ ghost use Rattle.timing.specs.Clocks.{converted};
 use crate::rules::Opening;
 
 #[repr(C)]
-#[derive(Drop)]
+#[derive(Clone, Copy)]
 pub struct DramCycles(pub u16);
 
 #[repr(C)]
-#[derive(Drop)]
+#[derive(Clone, Copy)]
 pub struct ControllerCycles(pub u64);
 
 // A gap in controller cycles, and the DRAM cycles that rounding up loses.
-#[derive(Drop)]
+#[derive(Clone, Copy)]
 pub struct Converted {
     pub rounded: ControllerCycles,
     pub lost: DramCycles,

@@ -7,7 +7,7 @@ use crate::kinds::CommandKind;
 
 // What an opening says beside its twenty gaps.
 #[repr(C)]
-#[derive(Drop)]
+#[derive(Clone, Copy)]
 pub struct Opening {
     pub ratio: u8,
     pub ranks: u8,
@@ -17,7 +17,7 @@ pub struct Opening {
     pub client: u32,
 }
 
-#[derive(Drop)]
+#[derive(Clone, Copy)]
 pub struct Command {
     pub kind: CommandKind,
     pub rank: u8,
