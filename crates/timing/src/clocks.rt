@@ -13,7 +13,7 @@ pub struct DramCycles(pub u16);
 pub struct ControllerCycles(pub u64);
 
 // A gap in controller cycles, and the DRAM cycles that rounding up loses.
-#[derive(Drop)]
+#[derive(Clone, Copy)]
 pub struct Converted {
     pub rounded: ControllerCycles,
     pub lost: DramCycles,

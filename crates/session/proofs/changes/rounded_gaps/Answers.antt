@@ -1,0 +1,29 @@
+-- `rounded_gaps` meets its contract: the loop fills the rounded gaps from the front.
+use mathlib.Core.Path.{◌≡◌, ◌∙◌, ap}
+use lib.ListN.{length-set}
+use native.Mathlib.Omega.{arith}
+use Rattle.timing.specs.declared.clocks.Converted.{Converted}
+use Rattle.timing.specs.Clocks.{cycles, rounded_up}
+use Rattle.timing.proofs.Fill.{fill_more, fill_all}
+use Rattle.session.specs.State.{rounded_gaps}
+use Rattle.session.proofs.RoundedLaws.{rounded_size, rounded_at}
+use Rattle.session.proofs.changes.rounded_gaps.Goals as goal
+
+pub loop-i-preserved : goal.loop-i-preserved
+loop-i-preserved c =
+    let a = c.args in
+    let l = c.loop-i in
+    let size = rounded_size a.opening a.gaps ∙ c.well_formed.1.0.1.0.1 in (
+      omega arith,
+      simp length-set l.invariant.1,
+      fill_more (cycles (rounded_up a.opening (record { 0 = 0 }))) l.rounded (rounded_gaps a.opening a.gaps) l.i c.converted-both.result.rounded (omega arith) (omega arith)
+          l.invariant.2 (ap (λ (x : Converted). x.rounded) c.converted-both.ensures ∙ rounded_at a.opening a.gaps l.i),
+    )
+
+pub returns : goal.returns
+returns c =
+    let a = c.args in
+    let l = c.loop-i in
+    let size = rounded_size a.opening a.gaps ∙ c.well_formed.1.0.1.0.1 in
+    let all : l.i ≡ 20 = omega arith in
+    fill_all (cycles 0) l.rounded (rounded_gaps a.opening a.gaps) 20 (omega arith) (omega arith) (rw all at l.invariant.2)
