@@ -1,16 +1,15 @@
 -- A call at ratio r and the same call at ratio 1 with every cycle times r get the same number, given room for both, and leave histories that differ in
 -- just that.
-use mathlib.Core.Path.{◌≡◌, refl, sym, ◌∙◌, ap}
+use mathlib.Core.Path.{◌≡◌, refl, ◌∙◌, ap}
 use mathlib.Core.Logic.{⊎_elim}
 use mathlib.Core.Bool.{Bool, true, false, cond, not, ◌&&◌, ◌||◌}
-use mathlib.Core.List.{List, [], ◌∷◌, ◌++◌, map, tail}
+use mathlib.Core.List.{List, [], ◌∷◌, map, tail}
 use Prim.Native.Nat.{ℕ, ◌-◌, ◌*◌, ◌≤◌, ◌<◌}
 use native.Mathlib.Nat.{mul-le-mul_left}
 use native.Mathlib.Omega.{arith}
 use lib.Dec.{eqb, leb, ltb}
 use lib.ListN.{length, length-map}
 use borrow.Author.Tests.{eqb-true, lt-leb, le-ltb}
-use Rattle.timing.specs.declared.kinds.CommandKind.{CommandKind}
 use Rattle.timing.specs.declared.kinds.MaybeKind.{MaybeKind}
 use Rattle.timing.specs.declared.kinds.MaybeKind.TheVariants.{Kind, NoKind}
 use Rattle.timing.specs.declared.rules.Command.{Command}
@@ -22,7 +21,7 @@ use Rattle.timing.specs.Editions.{newest}
 use Rattle.timing.proofs.Truth.{or_true}
 use Rattle.timing.proofs.ScaledLaws.{early_scaled, floor_scaled, wrong_scaled}
 use Rattle.history.specs.Records.{Record, opening, command, take_back_record, History, Current, closed, session, pushed, popped, standing}
-use Rattle.history.specs.Answers.{Refusal, ◌gives◌, first_of, last_cycle, good_ratio, good_ranks, good_live, live_mode, bad_bank, open_lines, depth_lines, room_lines, offer_lines, Verdict, reply_of, next_of, open_reply, offer_reply, take_back_reply, open_on, offer_on, offer_case, take_back_on, take_back_case}
+use Rattle.history.specs.Answers.{◌gives◌, first_of, last_cycle, good_ratio, good_ranks, live_mode, bad_bank, Verdict, reply_of, next_of, open_reply, offer_reply, take_back_reply, open_on, offer_on, offer_case, take_back_on, take_back_case}
 use Rattle.history.specs.Struck.{Call, open_session, offer, take_back, verdict}
 use Rattle.history.specs.Scaled.{scaled, Within}
 
