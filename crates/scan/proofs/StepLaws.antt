@@ -13,7 +13,7 @@ use lib.Seq.{get_or_at}
 use borrow.Author.Tests.{ltb-true, ltb-false, eqb-false}
 use Rattle.timing.specs.declared.clocks.ControllerCycles.{ControllerCycles}
 use Rattle.timing.specs.declared.kinds.CommandKind.{CommandKind}
-use Rattle.timing.specs.Rules.{class_for, table_gap, kind_at}
+use Rattle.timing.specs.Rules.{kind_at}
 use Rattle.timing.specs.declared.rules.Opening.{Opening}
 use Rattle.timing.specs.Clocks.{cycles}
 use Rattle.session.specs.State.{gap_at}

@@ -95,7 +95,7 @@ pub fn spot_of(command: Command) -> usize
     command.rank as usize % 2 * RANK_SLOTS + command.bank as usize
 }
 
-#[derive(Drop)]
+#[derive(Clone, Copy)]
 pub struct Earliest {
     pub cycle: ControllerCycles,
     pub gap: u64,
