@@ -3,7 +3,7 @@ ghost use Rattle.std.specs.Prelude.{◌≡◌};
 ghost use Rattle.requests.specs.Forms.{form_at, size_of, index_in, place_at, up_to, place_in, is_whole};
 
 // What a line asks: a row of the table, nothing (a blank line or a comment), or what is no line of the table.
-#[derive(Drop)]
+#[derive(Clone, Copy)]
 pub enum Request {
     Nothing,
     Malformed,
@@ -23,7 +23,7 @@ pub enum Request {
 
 // What stands behind a form's word: how many kinds, and behind them how many numbers of 64, 32, 16 and 8 bits; whether these come again
 // and again; and whether the form stands where the journal is a file.
-#[derive(Drop)]
+#[derive(Clone, Copy)]
 pub struct Form(
     pub Request,
     pub u8,

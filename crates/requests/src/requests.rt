@@ -8,7 +8,7 @@ use crate::forms::{Form, Place, ROWS, WORDS, form_at, is_whole, place_at};
 use crate::words::{Number, index_of, next_word, number_of};
 
 // A row of the table; its numbers stand at the front of the array that was lent.
-#[derive(Drop)]
+#[derive(Clone, Copy)]
 pub struct Asked {
     pub row: usize,
     pub count: usize,

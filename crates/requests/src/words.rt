@@ -17,7 +17,7 @@ pub enum Number {
 }
 
 // What a scan goes over: blanks, the bytes of a word, or those of a line.
-#[derive(Drop)]
+#[derive(Clone, Copy)]
 pub enum Over {
     Blanks,
     Word,
