@@ -1,10 +1,14 @@
 -- `wrong_bank` meets its contract: line 12 where the edition has it.
+use Prim.Native.Nat.{◌≤◌}
+use native.Mathlib.Omega.{arith}
 use borrow.Author.Tests.{le-leb}
+use Rattle.timing.specs.Editions.{bank_states}
 use Rattle.session.proofs.BankLaws.{looks}
 use Rattle.session.proofs.banks.wrong_bank.Goals as goal
 
 pub returns : goal.returns
 returns c =
     let a = c.args in
-    rw (le-leb _ _ c.if-opening-lt-BANK_STATES.false, c.wanted.ensures, c.looked_at.ensures, c.bit_for-bit.ensures.0)
+    let has-states : bank_states ≤ a.opening.edition = omega arith in
+    rw (le-leb _ _ has-states, c.wanted.ensures, c.looked_at.ensures, c.bit_for-bit.ensures.0)
     (looks a.up a.command.rank a.command.bank a.command.kind)
