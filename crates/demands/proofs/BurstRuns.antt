@@ -1,15 +1,15 @@
 -- The demands hold for runs that contain bursts: such a run is a run, of the same events. Nothing of a burst is left open.
-use mathlib.Core.Path.{◌≡◌, refl, sym, ◌∙◌, ap, subst}
-use mathlib.Core.List.{List, []}
+use mathlib.Core.Path.{◌≡◌, sym, ◌∙◌, ap, subst}
+use mathlib.Core.List.{List, [], ◌∷◌}
 use Prim.Native.Nat.{ℕ}
 use native.Mathlib.Numerals.{add-one}
-use Rattle.history.specs.Answers.{Reply, plain}
+use Rattle.history.specs.Answers.{Reply, plain, accepted_at}
 use Rattle.session.specs.declared.state.Session.{Session}
 use Rattle.journal.specs.declared.records.Offer.{Offer}
 use Rattle.statements.specs.Calls.{Does, calls, replied, by_call}
-use Rattle.statements.specs.Bursts.{over, Burst, in_a_row, Bursts, InARow, none_left, one_refused, one_accepted}
+use Rattle.statements.specs.Bursts.{Burst, in_a_row, Bursts, InARow, none_left, one_refused, one_accepted}
 use Rattle.statements.proofs.BurstLaws.{accepted_reply, burst_is_offers}
-use Rattle.demands.specs.Runs.{Event, Run, starts, resumes, moves, fails}
+use Rattle.demands.specs.Runs.{Event, moved, Run, starts, resumes, moves, fails}
 use Rattle.demands.specs.Reached.{Reached, by_call as reached-by-call}
 use Rattle.demands.specs.Bursts as bursts
 use Rattle.demands.specs.Bursts.{offer_call, burst_events, BurstRun}
@@ -22,7 +22,7 @@ row_runs run none_left = run
 row_runs run (one_refused p some) = moves run (by_call p)
 row_runs {room} {es} {first = first} run (one_accepted {o = o} {os = os} {s = s} {mid = mid} {next = next} {lent = lent} {between = between} {bytes = bytes} {reply = reply} {n = n} p none rest) =
     let one = subst (λ (q : Reply). Does (calls (offer_call o)) s lent (replied q) mid between) (accepted_reply s lent o p none) (by_call p) in
-    rw (add-one n) (row_runs (moves run one) rest)
+    rw (add-one n) (row_runs {es = moved (calls (offer_call o)) (replied (accepted_at o.cycle.0)) ∷ es} (moves run one) rest)
 
 -- A RUN WITH BURSTS IS A RUN, of the same events, state and journal
 pub without_bursts : {room : ℕ} {es : List Event} {s : Session} {first j : List ℕ} → BurstRun room es s first j → Run room es s first j
