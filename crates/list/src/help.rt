@@ -1,32 +1,36 @@
 // What a person reads who lists a journal.
-use libc::{STDERR_FILENO, STDOUT_FILENO};
+use input::says;
+use std::io::{Stderr, Stdout};
 
-fn say(line: &[u8]) {
-    io::write_all(STDOUT_FILENO, line);
+fn say(mut out: Stdout, line: &[u8]) {
+    let _ = says::write_all(&mut out, line);
 }
 
-pub fn print() {
-    say(b"list writes a journal's records, one to a line, from standard input.\n\n");
-    say(b"  list < FILE    the listing\n");
-    say(b"  list --help    this page\n\n");
-    say(b"Lines, NUMBER being the record's:\n");
-    say(b"  NUMBER open CLIENT             an opening\n");
-    say(b"  NUMBER KIND RANK BANK CYCLE    a command: ACT RD WR PREPB PREAB REFAB REFPB\n");
-    say(b"  NUMBER back                    a take-back\n");
+pub fn print(out: Stdout) {
+    say(out, b"list writes a journal's records, one to a line, from standard input.\n\n");
+    say(out, b"  list < FILE    the listing\n");
+    say(out, b"  list --help    this page\n\n");
+    say(out, b"Lines, NUMBER being the record's:\n");
+    say(out, b"  NUMBER open CLIENT             an opening\n");
+    say(out, b"  NUMBER KIND RANK BANK CYCLE    a command: ACT RD WR PREPB PREAB REFAB REFPB\n");
+    say(out, b"  NUMBER back                    a take-back\n");
     say(
+        out,
         b"  end RECORDS BYTES              the whole records, and the bytes left over: a restore answers 0\n",
     );
     say(
+        out,
         b"  bad NUMBER                     the listing ends at this record: a restore answers 11\n",
     );
     say(
+        out,
         b"A journal holds at most 16777216 records; a restore answers a longer one with 9, and its listing ends at its first bad record, or with bad 16777216.\n",
     );
 }
 
-pub fn expected() {
-    io::write_all(
-        STDERR_FILENO,
+pub fn expected(errors: Stderr) {
+    says::say(
+        errors,
         b"list: expected no argument, or --help; the journal comes on standard input: list < FILE\n",
     );
 }
