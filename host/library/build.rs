@@ -1,14 +1,14 @@
-//! Links the proved library, which `rt staticlib capi` writes.
+//! Links the proved library, which `rt lib` writes in crates/capi.
 
 use std::path::Path;
 
 fn main() {
-    let folder = Path::new(env!("CARGO_MANIFEST_DIR")).join("../../target/staticlib");
+    let folder = Path::new(env!("CARGO_MANIFEST_DIR")).join("../../crates/capi/out");
     let archive = folder.join("libcapi.a");
     println!("cargo:rerun-if-changed={}", archive.display());
     assert!(
         archive.exists(),
-        "{} is missing: run 'rt staticlib capi' first",
+        "{} is missing: run 'rt lib' in crates/capi first",
         archive.display()
     );
     println!("cargo:rustc-link-search=native={}", folder.display());

@@ -32,7 +32,7 @@ fn compiled(mut with: Command, header: &Path, source: &Path, program: &Path) -> 
         .arg("-I")
         .arg(header)
         .arg(source)
-        .arg(top().join("target/staticlib/libcapi.a"))
+        .arg(top().join("crates/capi/out/libcapi.a"))
         .arg("-o")
         .arg(program)
         .output()

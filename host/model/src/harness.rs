@@ -61,21 +61,21 @@ impl Programs {
     pub fn bench(&self) -> Program {
         match self.is_tool {
             true => tool(TOOL_BENCH),
-            false => program("ROSSINHIU_BENCH", "target/bin/bench", "rt ci", &[]),
+            false => program("ROSSINHIU_BENCH", "crates/bench/out/bench", "rt ci", &[]),
         }
     }
 
     pub fn list(&self) -> Program {
         match self.is_tool {
             true => tool(&["list"]),
-            false => program("ROSSINHIU_LIST", "target/bin/list", "rt ci", &[]),
+            false => program("ROSSINHIU_LIST", "crates/list/out/list", "rt ci", &[]),
         }
     }
 }
 
 /// The tool, with these words before a test's own.
 pub fn tool(words: &'static [&'static str]) -> Program {
-    let build = "rt staticlib capi, then cargo build --release -p rossinhiu-tool in host/";
+    let build = "rt lib in crates/capi, then cargo build --release -p rossinhiu-tool in host/";
     program(
         "ROSSINHIU_TOOL",
         "host/target/release/rossinhiu",
