@@ -8,7 +8,6 @@ use lib.ListN.{length, take, drop, length-drop, length-append, take-append-drop}
 use lib.Seq.{length-take-le, take-append_seam, drop-append_seam}
 use Rattle.history.specs.Answers.{Reply, plain}
 use Rattle.session.specs.declared.state.Session.{Session}
-use Rattle.journal.specs.declared.records.Offer.{Offer}
 use Rattle.statements.specs.Bursts.{over, ended, burst_in, Burst, OffersOne}
 use Rattle.statements.proofs.BurstLaws.{Bursting, bursting_start, bursting_end, bursting_stopped, bursting_offered}
 use Rattle.console.specs.declared.say.Said.{Said}

@@ -5,7 +5,7 @@ use Prim.Native.Nat.{ℕ, zero, suc, ◌+◌, ◌*◌, ◌≤◌, min, ◌<◌}
 use native.Mathlib.Omega.{arith}
 use lib.ListN.{length, take, get_or, length-append, length-take, set, length-map, get_or-map}
 use borrow.Author.Tests.{ne_eqb}
-use Rattle.text.specs.Text.{text, decimal, spaced}
+use Rattle.text.specs.Text.{text, spaced}
 use Rattle.text.specs.declared.lines.Line.{Line}
 use Rattle.text.specs.Lines.{shown, Appended, IsLine}
 use Rattle.text.proofs.PutLaws.{take_min}

@@ -1,12 +1,8 @@
 -- `keep` meets its contract: what is read lies ahead of what is written.
-use mathlib.Core.Path.{◌≡◌, refl, ◌∙◌}
+use mathlib.Core.Path.{◌≡◌}
 use Prim.Native.Nat.{◌-◌, ◌≤◌}
-use native.Mathlib.Omega.{arith}
-use lib.ListN.{length, take, drop, length-set}
-use lib.Seq.{paste, paste-zero}
-use Rattle.console.specs.Output.{under_way}
-use Rattle.console.proofs.OutputLaws.{move_next, under_none, under_out, under_is, kept_none, kept_end}
-use borrow.Author.Rules.{rules}
+use lib.ListN.{length, take, drop}
+use lib.Seq.{paste}
 use Rattle.console.proofs.lines.keep.Given as goal
 
 abbrev pub invariant-loop-i : goal.invariant-loop-i

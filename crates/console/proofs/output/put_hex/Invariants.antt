@@ -1,13 +1,9 @@
 -- `put_hex` meets its contract. The invariant: the digits of the first i bytes are written, and `out` is as long as it was.
-use mathlib.Core.Path.{◌≡◌, refl, sym, ◌∙◌}
+use mathlib.Core.Path.{◌≡◌}
 use Prim.Native.Nat.{◌≤◌, ◌-◌, ◌*◌}
-use native.Mathlib.Omega.{arith}
-use lib.ListN.{length, length-set}
-use lib.Seq.{paste, paste-zero, take_all}
+use lib.ListN.{length}
+use lib.Seq.{paste}
 use Rattle.console.specs.Output.{hex_text}
-use Rattle.text.proofs.PutLaws.{put_none, put_paste}
-use Rattle.console.proofs.OutputLaws.{hex_size, hex_next}
-use borrow.Author.Rules.{rules}
 use Rattle.console.proofs.output.put_hex.Given as goal
 
 abbrev pub invariant-loop-i : goal.invariant-loop-i

@@ -1,12 +1,8 @@
 -- `gaps_of` meets its contract.
-use mathlib.Core.Path.{◌≡◌, refl, sym, ◌∙◌}
+use mathlib.Core.Path.{◌≡◌}
 use Prim.Native.Nat.{◌-◌, ◌≤◌}
-use native.Mathlib.Omega.{arith}
-use lib.ListN.{length, take, length-set}
-use lib.Seq.{take_all}
+use lib.ListN.{length, take}
 use Rattle.console.specs.Respond.{each_from, gap_from}
-use Rattle.console.proofs.RespondLaws.{each_next}
-use borrow.Author.Rules.{rules}
 use Rattle.console.proofs.respond.gaps_of.Given as goal
 
 abbrev pub invariant-loop-i : goal.invariant-loop-i

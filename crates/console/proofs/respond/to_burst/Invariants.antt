@@ -1,14 +1,7 @@
 -- `to_burst` meets its contract: command after command, until one is refused or none is left.
-use mathlib.Core.Path.{◌∙◌, subst}
-use Prim.Native.Nat.{◌-◌, ◌/◌, ◌<◌, ◌≤◌}
-use native.Mathlib.Omega.{arith}
-use lib.ListN.{length, take, length-take}
-use Rattle.requests.proofs.PlaceLaws.{front_size}
-use Rattle.history.specs.Answers.{Reply}
-use Rattle.console.specs.Say.{burst_numbers, Tells}
-use Rattle.console.specs.Respond.{outcome_in}
-use Rattle.console.proofs.BurstSaid.{Going, going_start, going_end, going_stopped, going_on}
-use borrow.Author.Rules.{rules}
+use Prim.Native.Nat.{◌-◌}
+use lib.ListN.{take}
+use Rattle.console.proofs.BurstSaid.{Going}
 use Rattle.console.proofs.respond.to_burst.Given as goal
 
 abbrev pub invariant-loop-i : goal.invariant-loop-i
