@@ -11,20 +11,20 @@ use timing::clocks::DramCycles;
 
 // The twenty gaps of an opening, gap 1 first.
 #[repr(C)]
-#[derive(Clone, Copy)]
+#[derive(Drop)]
 pub struct Gaps {
     pub gaps: [DramCycles; 20],
 }
 
 // The twenty times of a data sheet, that of gap 1 first.
 #[repr(C)]
-#[derive(Clone, Copy)]
+#[derive(Drop)]
 pub struct Times {
     pub times: [Picoseconds; 20],
 }
 
 #[repr(C)]
-#[derive(Clone, Copy)]
+#[derive(Drop)]
 pub struct StatusNumbers {
     pub number: u64,
     pub client: u32,
@@ -37,7 +37,7 @@ pub struct StatusNumbers {
 
 // `ended` is 1 if the bad line or the end line ended the listing, else 0.
 #[repr(C)]
-#[derive(Clone, Copy)]
+#[derive(Drop)]
 pub struct ListedPart {
     pub session: Session,
     pub written: usize,

@@ -9,7 +9,7 @@ use text::lines::put_line;
 
 // How much is lent; whether a newline ended the line (0: none did), and whether the journal is a file (0: it is memory alone).
 #[repr(C)]
-#[derive(Clone, Copy)]
+#[derive(Drop)]
 pub struct LineGiven {
     pub lent: usize,
     pub ended: u64,
@@ -19,7 +19,7 @@ pub struct LineGiven {
 // The state and how much is lent after a line; the length of the answer's text; and the part of the journal that is shown behind it as
 // hexadecimal.
 #[repr(C)]
-#[derive(Clone, Copy)]
+#[derive(Drop)]
 pub struct LinePlayed {
     pub session: Session,
     pub lent: usize,
