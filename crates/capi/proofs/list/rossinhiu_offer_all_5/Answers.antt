@@ -1,9 +1,8 @@
 -- `rossinhiu_offer_all` meets its contract: command after command, until one is refused or none is left.
-use Rattle.std.proofs.Common.{arith, ◌≡◌, ◌≢◌, refl, sym, ◌∙◌, ap, ℕ, ◌+◌, ◌*◌, ◌<◌, ◌≤◌, List, length, [], ◌∷◌, drop, get_or, drop-cons}
+use Rattle.std.proofs.Common.{arith, ◌≡◌, refl, sym, ◌∙◌, ap, ℕ, ◌+◌, ◌<◌, ◌≤◌, List, length, [], ◌∷◌, drop, get_or, drop-cons}
 use lib.ListN.{drop_of_length-le}
 use native.Mathlib.Numerals.{add-one}
-use Rattle.history.specs.Records.{command}
-use Rattle.history.specs.Answers.{record_size, room_of}
+use Rattle.history.specs.Answers.{room_of}
 use Rattle.session.specs.declared.state.Session.{Session}
 use Rattle.journal.specs.declared.records.Offer.{Offer}
 use Rattle.scan.specs.Rows.{stamps}
