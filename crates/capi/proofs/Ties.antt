@@ -22,6 +22,8 @@ use Rattle.capi.proofs.calls.rossinhiu_offer_5.Kinds as offers
 use Rattle.capi.proofs.calls.rossinhiu_offer_5.Reads as offer-reads
 use Rattle.capi.proofs.calls.rossinhiu_offer_pieces_5.Kinds as offers-pieces
 use Rattle.capi.proofs.calls.rossinhiu_offer_pieces_5.Reads as offer-pieces-reads
+use Rattle.capi.proofs.list.rossinhiu_offer_all_5.Kinds as offers-all
+use Rattle.capi.proofs.list.rossinhiu_offer_all_5.Reads as offer-all-reads
 use Rattle.capi.proofs.calls.rossinhiu_take_back_5.Kinds as takes_back
 use Rattle.capi.proofs.calls.rossinhiu_take_back_5.Reads as take-back-reads
 use Rattle.capi.proofs.calls.rossinhiu_earliest_5.Kinds as earliest
@@ -53,6 +55,10 @@ offer_ensures κs a r s p = p
 offer_pieces_ensures : Ensures 2 offers-pieces.ps offers-pieces.r offer-pieces-reads.Post
     (λ κs a r s. Bursts a.0 a.1.0.now (offers_from a.1.1.0.now) r.count (reply_in r.answer) r.session s.1.0.now)
 offer_pieces_ensures κs a r s p = p
+
+offer_all_ensures : Ensures 2 offers-all.ps offers-all.r offer-all-reads.Post
+    (λ κs a r s. Bursts a.0 a.1.0.now a.1.1.0.now r.count (reply_in r.answer) r.session s.1.0.now)
+offer_all_ensures κs a r s p = p
 
 take_back_ensures : Ensures 1 takes_back.ps takes_back.r take-back-reads.Post
     (λ κs a r s. TakesBack a.0 a.1.0.now (plain r.number) r.session s.1.0.now)

@@ -1,5 +1,5 @@
-// A burst whose commands stand in a lent slice of structs: any numbers, so that lines 2 to 4 are reached. A slice of structs is walked by hand
-// (docs/DECISIONS.md), and the state's stores stand in the loop, so that it is not copied back and forth.
+// A burst whose commands stand in a lent slice of structs: any numbers, so that lines 2 to 4 are reached. The state's stores stand in the
+// loop, so that it is not copied back and forth.
 ghost use Rattle.judging.specs.Judged.{reply_in};
 ghost use Rattle.statements.specs.Bursts.{Bursts};
 
