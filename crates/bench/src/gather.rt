@@ -3,7 +3,8 @@ ghost use Rattle.std.specs.Prelude.{◌<◌, ◌≤◌};
 
 use console::output::{put_byte, put_hex};
 use console::say::{Said, said_line};
-use libc::STDOUT_FILENO;
+use input::says::{fail, write_all};
+use std::io::{Stderr, Stdout};
 use text::lines::{Line, put_line};
 
 // What an answer's line or a piece of its bytes may add to the answers gathered.
@@ -12,9 +13,17 @@ const MARGIN: usize = 16384;
 // Journal bytes shown at once.
 const PIECE: usize = 4096;
 
+// Where answers go, and where it is said that they can't.
+#[derive(Clone, Copy)]
+pub struct Streams {
+    pub answers: Stdout,
+    pub errors: Stderr,
+}
+
 // The answers gathered and not yet written; once a write has failed nothing more is.
-#[derive(Drop)]
+#[derive(Clone, Copy)]
 pub struct Output {
+    pub to: Streams,
     pub len: usize,
     pub failed: bool,
 }
@@ -27,15 +36,20 @@ pub fn flush(out: &[u8], output: Output) -> Output {
     if out.len() < len {
         return output;
     }
-    let is_written = io::write_all(STDOUT_FILENO, &out[..len]);
-    if !is_written {
-        os::fail(
+    let to = output.to;
+    let mut answers = to.answers;
+    let written = write_all(&mut answers, &out[..len]);
+    if let Err(reason) = written {
+        fail(
+            to.errors,
             b"bench: the answers can't be written, so it ends here. See that standard output has room",
+            reason,
         );
     }
     Output {
+        to,
         len: 0,
-        failed: !is_written,
+        failed: written.is_err(),
     }
 }
 
@@ -53,6 +67,7 @@ fn say_line(out: &mut [u8], output: Output, line: Line) -> Output {
     let ready = with_room(out, output);
     let len = put_line(out, ready.len, line);
     Output {
+        to: ready.to,
         len,
         failed: ready.failed,
     }
@@ -61,6 +76,7 @@ fn say_line(out: &mut [u8], output: Output, line: Line) -> Output {
 fn say_newline(out: &mut [u8], output: Output) -> Output {
     let len = put_byte(out, output.len, b'\n');
     Output {
+        to: output.to,
         len,
         failed: output.failed,
     }
@@ -70,6 +86,7 @@ fn say_piece(out: &mut [u8], output: Output, bytes: &[u8]) -> Output {
     let ready = with_room(out, output);
     let len = put_hex(out, ready.len, bytes);
     Output {
+        to: ready.to,
         len,
         failed: ready.failed,
     }

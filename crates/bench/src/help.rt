@@ -1,9 +1,14 @@
 // What a person at the bench reads.
-use libc::{STDERR_FILENO, STDOUT_FILENO};
+use input::says::{say, write_all};
+use std::io::{Stderr, Stdout};
 
-fn print_uses() {
-    io::write_all(
-        STDOUT_FILENO,
+fn print_page(mut out: Stdout, page: &[u8]) {
+    let _ = write_all(&mut out, page);
+}
+
+fn print_uses(out: Stdout) {
+    print_page(
+        out,
         b"bench plays a trace, one request to a line, from standard input, and prints one answer to each.
 
   bench          the journal is memory, gone at the end
@@ -14,9 +19,9 @@ fn print_uses() {
     );
 }
 
-fn print_requests() {
-    io::write_all(
-        STDOUT_FILENO,
+fn print_requests(out: Stdout) {
+    print_page(
+        out,
         b"Requests, and what is printed:
   open RATIO RANKS MODE CLIENT G1 .. G20   open N
   offer KIND RANK BANK CYCLE               offer N CYCLE GAP LOSS
@@ -34,9 +39,9 @@ fn print_requests() {
     );
 }
 
-fn print_words() {
-    io::write_all(
-        STDOUT_FILENO,
+fn print_words(out: Stdout) {
+    print_page(
+        out,
         b"RATIO is 1, 2 or 4; RANKS 1 or 2; MODE 0 (16-bank) or 2 (four groups of four); G1 to G20 are the gaps in DRAM cycles.
 KIND is ACT RD WR PREPB PREAB REFAB REFPB, or 1 to 7 in this order. CYCLE is in controller cycles.
 LOSS is in DRAM cycles: what GAP loses to rounding, 0 to RATIO - 1, and 0 where GAP is 0.
@@ -49,9 +54,9 @@ A line that is empty or begins with # asks nothing. Any other line prints ? and 
     );
 }
 
-fn print_numbers() {
-    io::write_all(
-        STDOUT_FILENO,
+fn print_numbers(out: Stdout) {
+    print_page(
+        out,
         b"N, the answer's number:
    0 accepted
    1 no session open
@@ -73,27 +78,27 @@ fn print_numbers() {
     );
 }
 
-fn print_gaps() {
-    io::write_all(
-        STDOUT_FILENO,
+fn print_gaps(out: Stdout) {
+    print_page(
+        out,
         b"GAP: 1 tRC  2 tRRD  3 tRCD  4 tRAS  5 tCCD  6 tCCD_L  7 tCCD_S  8 tRDWR  9 tRTP  10 tWRRD  11 tWRRD_L
      12 tWRRD_S  13 tWRPRE  14 tRPpb  15 tRPab  16 tPPD  17 tRFCab  18 tRFCpb  19 tPBR2PBR  20 tFAW  0 none
 ",
     );
 }
 
-pub fn print() {
-    print_uses();
-    print_requests();
-    print_words();
-    print_numbers();
-    print_gaps();
+pub fn print(out: Stdout) {
+    print_uses(out);
+    print_requests(out);
+    print_words(out);
+    print_numbers(out);
+    print_gaps(out);
 }
 
 // More than one argument, or one that is longer than a file's name can be.
-pub fn expected() {
-    io::write_all(
-        STDERR_FILENO,
+pub fn expected(errors: Stderr) {
+    say(
+        errors,
         b"bench: expected no argument, one FILE to keep the journal in, or --help\n",
     );
 }

@@ -5,13 +5,17 @@ ghost use Rattle.std.specs.Prelude.{◌≡◌, length};
 
 use console::say::{Said, numbered};
 use filing::{Loaded, explain_bad, load, opened};
-use gather::{Output, flush, say_answer};
+use gather::{Output, Streams, flush, say_answer};
 use play::run;
 use requests::forms::WORDS;
 use requests::words::{index_of, same};
 use restoring::restore::restore;
 use session::state::Session;
 use stack::is_deep;
+use std::env::FillError;
+use std::fs::File;
+use std::io::Stdin;
+use std::rt::{Env, Files};
 
 mod gather;
 mod help;
@@ -26,9 +30,10 @@ fn memory() -> [u8; 4194304]
 }
 
 // One answer at once, before anything is read.
-fn is_said(said: Said) -> bool {
-    let mut out = io::buffer();
+fn is_said(to: Streams, said: Said) -> bool {
+    let mut out = [0u8; 4096];
     let nothing = Output {
+        to,
         len: 0,
         failed: false,
     };
@@ -38,81 +43,126 @@ fn is_said(said: Said) -> bool {
 }
 
 // What a restore of the file's bytes gave is said, and where it was refused what a person can do; whether the trace can be played.
-fn is_sound(path: &[u8], bytes: &[u8], number: u64, record: u64) -> bool {
+fn is_sound(to: Streams, path: &[u8], bytes: &[u8], number: u64, record: u64) -> bool {
     let words = WORDS;
     let row = index_of(&words, b"restore");
-    if !is_said(numbered(row, 2, number, record)) {
+    if !is_said(to, numbered(row, 2, number, record)) {
         return false;
     }
     if number == 0 {
         return true;
     }
-    explain_bad(path, bytes, record);
+    explain_bad(to.errors, path, bytes, record);
     false
 }
 
 // What the file's bytes restore, and then the trace, if it is a journal. The bytes read always lie within the journal.
-fn play_restored(path: &[u8], file: i32, journal: &mut [u8], bytes: usize) {
+fn play_restored(
+    trace: Stdin,
+    to: Streams,
+    path: &[u8],
+    file: &File,
+    journal: &mut [u8],
+    bytes: usize,
+) {
     if journal.len() < bytes {
         return;
     }
     let done = restore(&journal[..bytes]);
-    if is_sound(path, &journal[..bytes], done.number, done.record) {
+    if is_sound(to, path, &journal[..bytes], done.number, done.record) {
         let session = done.session;
-        run(session, file, journal);
+        run(session, trace, to, Some(file), journal);
     }
 }
 
-fn play_file(path: &[u8], journal: &mut [u8]) {
-    let file = opened(path);
-    if file < 0 {
-        return;
-    }
-    let Loaded::Bytes(bytes) = load(path, file, journal) else {
+fn play_file<R: Files<File = File>>(
+    files: &R,
+    trace: Stdin,
+    to: Streams,
+    path: &[u8],
+    journal: &mut [u8],
+) {
+    let Some(file) = opened(files, to.errors, path) else {
         return;
     };
-    play_restored(path, file, journal, bytes);
+    let Loaded::Bytes(bytes) = load(files, to.errors, path, &file, journal) else {
+        return;
+    };
+    play_restored(trace, to, path, &file, journal, bytes);
 }
 
-fn play_memory(journal: &mut [u8]) {
-    run(Session::fresh(), -1, journal);
+fn play_memory(trace: Stdin, to: Streams, journal: &mut [u8]) {
+    run(Session::fresh(), trace, to, None, journal);
 }
 
 // The one argument.
-fn play_named(name: &[u8], journal: &mut [u8]) {
+fn play_named<R: Files<File = File>>(
+    files: &R,
+    trace: Stdin,
+    to: Streams,
+    name: &[u8],
+    journal: &mut [u8],
+) {
     if same(name, b"--help") {
-        help::print();
+        help::print(to.answers);
         return;
     }
-    play_file(name, journal);
+    play_file(files, trace, to, name, journal);
 }
 
-fn play_words(words: usize, journal: &mut [u8]) {
+fn play_words<R: Env + Files<File = File>>(
+    rt: &R,
+    trace: Stdin,
+    to: Streams,
+    words: usize,
+    journal: &mut [u8],
+) {
     if words < 2 {
-        play_memory(journal);
+        play_memory(trace, to, journal);
         return;
     }
-    let mut name = io::buffer();
-    let len = os::arg(1, &mut name);
-    if 2 < words || os::errno() != 0 {
-        help::expected();
+    let mut name = [0u8; 4096];
+    let Ok(len) = rt.arg(1, &mut name) else {
+        help::expected(to.errors);
+        return;
+    };
+    if 2 < words {
+        help::expected(to.errors);
         return;
     }
-    play_named(&name[..len], journal);
+    play_named(rt, trace, to, &name[..len], journal);
 }
 
 // The journal stands on this function's own stack, so that main can ask for the limit first: a function that calls itself is never
 // made a part of its caller. No command has so many words.
-fn work(words: usize) {
+fn work<R: Env + Files<File = File>>(rt: &R, trace: Stdin, to: Streams, words: usize) {
     let mut journal = memory();
-    play_words(words, &mut journal);
+    play_words(rt, trace, to, words, &mut journal);
     if 4611686018427387904 < words {
-        work(words - 1);
+        work(rt, trace, to, words - 1);
     }
 }
 
-fn main() {
-    if is_deep() {
-        work(os::arg_count());
+fn is_word(env: &impl Env, number: usize) -> bool {
+    !matches!(env.arg(number, &mut []), Err(FillError::NotPresent))
+}
+
+// How many words the program was started with, its own name among them.
+fn word_count(env: &impl Env) -> usize {
+    for number in 0..usize::MAX {
+        if !is_word(env, number) {
+            return number;
+        }
+    }
+    usize::MAX
+}
+
+fn main(rt: HostRuntime) {
+    let to = Streams {
+        answers: rt.stdout(),
+        errors: rt.stderr(),
+    };
+    if is_deep(&rt, to.errors) {
+        work(&rt, rt.stdin(), to, word_count(&rt));
     }
 }

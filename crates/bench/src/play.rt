@@ -1,20 +1,22 @@
 // A trace played line by line, and the answers written before each read that could wait.
 ghost use Rattle.std.specs.Prelude.{◌≤◌, ◌<◌, length};
 
-use crate::gather::{Output, flush, say_answer};
+use crate::gather::{Output, Streams, flush, say_answer};
 use console::lines::keep;
 use console::respond::respond;
 use console::say::Said;
 use filing::is_kept;
+use input::says::fail;
 use input::{Got, read_some};
-use libc::STDIN_FILENO;
 use requests::requests::{Asked, parse_line};
 use requests::words::{Over, past};
 use session::state::Session;
+use std::fs::File;
+use std::io::{Stderr, Stdin};
 
 // Of what was read, which ends at `end`, the line at hand stands from `start` to `stop`, and what is not yet played begins at `next`.
 // `whole`: a newline ended the line. `ended`: nothing more is played.
-#[derive(Drop)]
+#[derive(Clone, Copy)]
 struct Turn {
     start: usize,
     stop: usize,
@@ -40,10 +42,11 @@ fn blank(end: usize, output: Output) -> Turn
     }
 }
 
-fn started() -> Turn {
+fn started(to: Streams) -> Turn {
     blank(
         0,
         Output {
+            to,
             len: 0,
             failed: false,
         },
@@ -67,19 +70,21 @@ fn over(output: Output) -> Turn
 
 // One read of what is there, behind the line under way: the end of what was read, or 0 if nothing came. A failed read is not the end: the
 // line under way may go on otherwise than it stands here, and has no answer.
-fn read_behind(input: &mut [u8], kept: usize) -> Got
+fn read_behind(mut trace: Stdin, errors: Stderr, input: &mut [u8], kept: usize) -> Got
     ensures { result.count ≤ length input.new }
 {
     if input.len() <= kept {
         return Got {
             count: 0,
-            failed: false,
+            failed: None,
         };
     }
-    let got = read_some(STDIN_FILENO, &mut input[kept..]);
-    if got.failed {
-        os::fail(
+    let got = read_some(&mut trace, &mut input[kept..]);
+    if let Some(reason) = got.failed {
+        fail(
+            errors,
             b"bench: standard input can't be read, so it ends here. Send the trace again from the first line that has no answer",
+            reason,
         );
         return got;
     }
@@ -88,13 +93,13 @@ fn read_behind(input: &mut [u8], kept: usize) -> Got
     }
     Got {
         count: kept + got.count,
-        failed: false,
+        failed: None,
     }
 }
 
 // All answers are written before the read, which could wait. What stands behind the last newline was cut short: it is answered, and not
 // played.
-fn read_on(turn: Turn, input: &mut [u8], out: &[u8; 65536]) -> Turn
+fn read_on(turn: Turn, trace: Stdin, input: &mut [u8], out: &[u8; 65536]) -> Turn
     ensures { (result.start ≤ result.stop) × (result.stop ≤ length input.new) }
 {
     let before = turn.output;
@@ -103,8 +108,8 @@ fn read_on(turn: Turn, input: &mut [u8], out: &[u8; 65536]) -> Turn
         return over(output);
     }
     let kept = keep(input, turn.next, turn.end);
-    let got = read_behind(input, kept);
-    if got.failed {
+    let got = read_behind(trace, output.to.errors, input, kept);
+    if got.failed.is_some() {
         return over(output);
     }
     if 0 < got.count {
@@ -132,7 +137,7 @@ fn stop_of(input: &[u8], next: usize, end: usize) -> usize
 }
 
 // The next whole line of what was read, or a read.
-fn next_turn(turn: Turn, input: &mut [u8; 69632], out: &[u8; 65536]) -> Turn
+fn next_turn(turn: Turn, trace: Stdin, input: &mut [u8; 69632], out: &[u8; 65536]) -> Turn
     ensures { (result.start ≤ result.stop) × (result.stop ≤ 69632) }
 {
     let output = turn.output;
@@ -143,7 +148,7 @@ fn next_turn(turn: Turn, input: &mut [u8; 69632], out: &[u8; 65536]) -> Turn
     let end = turn.end;
     let stop = stop_of(input, next, end);
     if end <= stop {
-        return read_on(turn, input, out);
+        return read_on(turn, trace, input, out);
     }
     Turn {
         start: next,
@@ -168,7 +173,7 @@ fn heard(turn: Turn, in_file: bool, input: &[u8; 69632], numbers: &mut [u64; 409
 // The record of an accepted call is kept before its answer is gathered; where it can't be, the call has no answer.
 fn answered(
     turn: Turn,
-    file: i32,
+    file: Option<&File>,
     journal: &[u8],
     before: u64,
     after: u64,
@@ -176,7 +181,7 @@ fn answered(
     said: Said,
 ) -> Turn {
     let gathered = turn.output;
-    if !is_kept(file, journal, before, after) {
+    if !is_kept(gathered.to.errors, file, journal, before, after) {
         return over(gathered);
     }
     let output = say_answer(out, gathered, said, journal);
@@ -191,23 +196,23 @@ fn answered(
     }
 }
 
-// `file` is the descriptor of the journal's file, below 0 where the journal is memory alone. At the start all of the journal is lent.
-pub fn run(start: Session, file: i32, journal: &mut [u8]) {
+// `file` is the journal's file, none where the journal is memory alone. At the start all of the journal is lent.
+pub fn run(start: Session, trace: Stdin, to: Streams, file: Option<&File>, journal: &mut [u8]) {
     let mut input = [0u8; 69632];
-    let mut out = io::large_buffer();
+    let mut out = [0u8; 65536];
     let mut numbers = [0u64; 4096];
     let mut session = start;
     let mut lent = journal.len();
-    let mut turn = started();
+    let mut turn = started(to);
     // A proved loop has to end, and nothing says that the input does: a count that no run uses up.
     let mut turns = u64::MAX;
     while turns > 0 {
         turns -= 1;
-        let line = next_turn(turn, &mut input, &out);
+        let line = next_turn(turn, trace, &mut input, &out);
         if line.ended {
             return;
         }
-        let asking = heard(line, 0 <= file, &input, &mut numbers);
+        let asking = heard(line, file.is_some(), &input, &mut numbers);
         let response = respond(session, journal, lent, asking, &numbers);
         let before = session.progress.records;
         let next = response.session;

@@ -1,30 +1,66 @@
 // How far the stack may grow: past that the system kills the program, and nothing says why.
-use libc::types::rlimit;
-use libc::{RLIMIT_STACK, STDERR_FILENO};
+use input::read_full;
+use input::says::{say, say_number};
+use std::fs;
+use std::fs::File;
+use std::io::Stderr;
+use std::rt::Files;
 
 // The journal's 4 MiB, the buffers, and a megabyte or more for the arguments and the environment, which lie on the stack too.
 const NEEDED: u64 = 6291456;
 
+// Where the system says it: a line `Max stack size`, then the bytes, or a word where there is no limit.
+const LIMITS: &str = "/proc/self/limits";
+
+const STACK: &[u8] = b"Max stack size";
+
+// Where in a text this line's words stand; the text's length where no line begins so.
+fn behind(text: &[u8], words: &[u8]) -> usize {
+    let mut i = 0;
+    while i < text.len() {
+        if text[i..].starts_with(words) {
+            return i + words.len();
+        }
+        i += 1;
+    }
+    text.len()
+}
+
+// The number that comes next, behind blanks; as much as there is where none does.
+fn number_from(text: &[u8]) -> u64 {
+    let mut number: Option<u64> = None;
+    for byte in text {
+        if byte.is_ascii_digit() {
+            let digit = u64::from(*byte - b'0');
+            number = Some(number.unwrap_or(0).saturating_mul(10).saturating_add(digit));
+        } else if number.is_some() || *byte != b' ' {
+            break;
+        }
+    }
+    number.unwrap_or(u64::MAX)
+}
+
 // What the system lets the stack grow to, in bytes; as much as there is where it does not say.
-fn stack_limit() -> u64 {
-    let mut limit = rlimit {
-        rlim_cur: u64::MAX,
-        rlim_max: u64::MAX,
+fn stack_limit<R: Files<File = File>>(files: &R) -> u64 {
+    let Ok(mut limits) = fs::open(files, LIMITS) else {
+        return u64::MAX;
     };
-    libc::getrlimit(RLIMIT_STACK, &mut limit);
-    limit.rlim_cur
+    let mut text = [0u8; 4096];
+    let got = read_full(&mut limits, &mut text);
+    let said = &text[..got.count];
+    number_from(&said[behind(said, STACK)..])
 }
 
 // Whether the stack may grow as far as is needed; where not, standard error says what to do.
-pub fn is_deep() -> bool {
-    let limit = stack_limit();
+pub fn is_deep<R: Files<File = File>>(files: &R, errors: Stderr) -> bool {
+    let limit = stack_limit(files);
     if NEEDED <= limit {
         return true;
     }
-    io::write_all(STDERR_FILENO, b"bench: the stack may grow to ");
-    io::print_decimal(STDERR_FILENO, limit / 1024);
-    io::write_all(
-        STDERR_FILENO,
+    say(errors, b"bench: the stack may grow to ");
+    say_number(errors, limit / 1024);
+    say(
+        errors,
         b" KiB only, and 6144 are needed. In the shell that starts it, type: ulimit -s 8192\n",
     );
     false

@@ -7,12 +7,18 @@ fn say(mut out: Stdout, line: &[u8]) {
 }
 
 pub fn print(out: Stdout) {
-    say(out, b"list writes a journal's records, one to a line, from standard input.\n\n");
+    say(
+        out,
+        b"list writes a journal's records, one to a line, from standard input.\n\n",
+    );
     say(out, b"  list < FILE    the listing\n");
     say(out, b"  list --help    this page\n\n");
     say(out, b"Lines, NUMBER being the record's:\n");
     say(out, b"  NUMBER open CLIENT             an opening\n");
-    say(out, b"  NUMBER KIND RANK BANK CYCLE    a command: ACT RD WR PREPB PREAB REFAB REFPB\n");
+    say(
+        out,
+        b"  NUMBER KIND RANK BANK CYCLE    a command: ACT RD WR PREPB PREAB REFAB REFPB\n",
+    );
     say(out, b"  NUMBER back                    a take-back\n");
     say(
         out,

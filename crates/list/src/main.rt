@@ -3,8 +3,8 @@
 
 ghost use Rattle.std.specs.Prelude.{◌≡◌, length};
 
-use input::{Got, read_full};
 use input::says::{fail, write_all};
+use input::{Got, read_full};
 use listing::records::list_part;
 use requests::words::same;
 use session::state::Session;
