@@ -1,7 +1,7 @@
 /*
  * Rossinhiu: a proved checker for a bench that plays a command trace into a memory module.
  *
- * Link crates/capi/out/libcapi.a (made by `rt lib` in crates/capi; x86-64 Linux). It wants memcpy, memmove and memset of the C library
+ * Link crates/capi/out/libcapi.a (made by `rt lib --cpu x86-64` in crates/capi; x86-64 Linux). It wants memcpy, memmove and memset of the C library
  * and nothing else: no heap, no file, no thread, no global value. So calls with different states and journals may run at once.
  * Header and archive belong together: an archive whose structs are laid out otherwise does not link.
  *

@@ -1,4 +1,4 @@
-//! Links the proved library, which `rt lib` writes in crates/capi.
+//! Links the proved library, which `rt lib --cpu x86-64` writes in crates/capi.
 
 use std::path::Path;
 
@@ -8,7 +8,7 @@ fn main() {
     println!("cargo:rerun-if-changed={}", archive.display());
     assert!(
         archive.exists(),
-        "{} is missing: run 'rt lib' in crates/capi first",
+        "{} is missing: run 'rt lib --cpu x86-64' in crates/capi first",
         archive.display()
     );
     println!("cargo:rustc-link-search=native={}", folder.display());

@@ -75,7 +75,7 @@ impl Programs {
 
 /// The tool, with these words before a test's own.
 pub fn tool(words: &'static [&'static str]) -> Program {
-    let build = "rt lib in crates/capi, then cargo build --release -p rossinhiu-tool in host/";
+    let build = "rt lib --cpu x86-64 in crates/capi, then cargo build --release -p rossinhiu-tool in host/";
     program(
         "ROSSINHIU_TOOL",
         "host/target/release/rossinhiu",
