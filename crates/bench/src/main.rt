@@ -135,7 +135,7 @@ fn play_words<R: Env + Files<File = File>>(
 
 // The journal stands on this function's own stack, so that main can ask for the limit first: a function that calls itself is never
 // made a part of its caller. No command has so many words.
-fn work<R: Env + Files<File = File>>(rt: &R, trace: Stdin, to: Streams, words: usize) {
+fn work(rt: &HostRuntime, trace: Stdin, to: Streams, words: usize) {
     let mut journal = memory();
     play_words(rt, trace, to, words, &mut journal);
     if 4611686018427387904 < words {

@@ -14,16 +14,15 @@ const LIMITS: &str = "/proc/self/limits";
 
 const STACK: &[u8] = b"Max stack size";
 
-// Where in a text this line's words stand; the text's length where no line begins so.
-fn behind(text: &[u8], words: &[u8]) -> usize {
-    let mut i = 0;
-    while i < text.len() {
-        if text[i..].starts_with(words) {
-            return i + words.len();
+// What stands behind these words, where a text has them.
+fn behind<'a>(text: &'a [u8], words: &[u8]) -> Option<&'a [u8]> {
+    for at in 0..text.len() {
+        let rest = text[at..].strip_prefix(words);
+        if rest.is_some() {
+            return rest;
         }
-        i += 1;
     }
-    text.len()
+    None
 }
 
 // The number that comes next, behind blanks; as much as there is where none does.
@@ -47,8 +46,7 @@ fn stack_limit<R: Files<File = File>>(files: &R) -> u64 {
     };
     let mut text = [0u8; 4096];
     let got = read_full(&mut limits, &mut text);
-    let said = &text[..got.count];
-    number_from(&said[behind(said, STACK)..])
+    behind(&text[..got.count], STACK).map_or(u64::MAX, number_from)
 }
 
 // Whether the stack may grow as far as is needed; where not, standard error says what to do.
