@@ -1,13 +1,9 @@
 // What a person at the bench reads.
-use input::says::{say, write_all};
+use input::says::say;
 use std::io::{Stderr, Stdout};
 
-fn print_page(mut out: Stdout, page: &[u8]) {
-    let _ = write_all(&mut out, page);
-}
-
 fn print_uses(out: Stdout) {
-    print_page(
+    say(
         out,
         b"bench plays a trace, one request to a line, from standard input, and prints one answer to each.
 
@@ -20,7 +16,7 @@ fn print_uses(out: Stdout) {
 }
 
 fn print_requests(out: Stdout) {
-    print_page(
+    say(
         out,
         b"Requests, and what is printed:
   open RATIO RANKS MODE CLIENT G1 .. G20   open N
@@ -40,7 +36,7 @@ fn print_requests(out: Stdout) {
 }
 
 fn print_words(out: Stdout) {
-    print_page(
+    say(
         out,
         b"RATIO is 1, 2 or 4; RANKS 1 or 2; MODE 0 (16-bank) or 2 (four groups of four); G1 to G20 are the gaps in DRAM cycles.
 KIND is ACT RD WR PREPB PREAB REFAB REFPB, or 1 to 7 in this order. CYCLE is in controller cycles.
@@ -55,7 +51,7 @@ A line that is empty or begins with # asks nothing. Any other line prints ? and 
 }
 
 fn print_numbers(out: Stdout) {
-    print_page(
+    say(
         out,
         b"N, the answer's number:
    0 accepted
@@ -79,7 +75,7 @@ fn print_numbers(out: Stdout) {
 }
 
 fn print_gaps(out: Stdout) {
-    print_page(
+    say(
         out,
         b"GAP: 1 tRC  2 tRRD  3 tRCD  4 tRAS  5 tCCD  6 tCCD_L  7 tCCD_S  8 tRDWR  9 tRTP  10 tWRRD  11 tWRRD_L
      12 tWRRD_S  13 tWRPRE  14 tRPpb  15 tRPab  16 tPPD  17 tRFCab  18 tRFCpb  19 tPBR2PBR  20 tFAW  0 none

@@ -1,233 +1,167 @@
 // A trace played line by line, and the answers written before each read that could wait.
-ghost use Rattle.std.specs.Prelude.{◌≤◌, ◌<◌, length};
+ghost use Rattle.std.specs.Prelude.{◌+◌, ◌<◌, ◌≤◌, length, IfSome};
 
-use crate::gather::{Output, Streams, flush, say_answer};
+use crate::gather::Answers;
 use console::lines::keep;
 use console::respond::respond;
-use console::say::Said;
-use filing::is_kept;
+use filing::JournalFile;
+use filing::faults::Unkept;
+use input::read_some;
 use input::says::fail;
-use input::{Got, read_some};
-use requests::requests::{Asked, parse_line};
-use requests::words::{Over, past};
+use requests::requests::parse_line;
+use requests::words::line_len;
 use session::state::Session;
-use std::fs::File;
-use std::io::{Stderr, Stdin};
+use std::io;
+use std::io::{Error, Stderr, Stdin, Stdout};
 
-// Of what was read, which ends at `end`, the line at hand stands from `start` to `stop`, and what is not yet played begins at `next`.
-// `whole`: a newline ended the line. `ended`: nothing more is played.
+// Where a trace comes from, where its answers go, and where it is said what fails.
 #[derive(Clone, Copy)]
-struct Turn {
-    start: usize,
-    stop: usize,
+pub struct Streams {
+    pub trace: Stdin,
+    pub answers: Stdout,
+    pub errors: Stderr,
+}
+
+// Why a trace is played no further than to here.
+#[derive(Clone, Copy)]
+pub enum Stop {
+    Unread(Error),
+    Unwritten(Error),
+    Unkept(Unkept),
+}
+
+impl Stop {
+    pub fn tell(&self, errors: Stderr) {
+        match *self {
+            Stop::Unread(reason) => fail(
+                errors,
+                b"bench: standard input can't be read, so it ends here. Send the trace again from the first line that has no answer",
+                reason,
+            ),
+            Stop::Unwritten(reason) => fail(
+                errors,
+                b"bench: the answers can't be written, so it ends here. See that standard output has room",
+                reason,
+            ),
+            Stop::Unkept(unkept) => unkept.tell(errors),
+        }
+    }
+}
+
+// A trace as far as it was read. What is not yet played stands from `next` to `end`.
+#[derive(Drop)]
+struct Trace<'a> {
+    stdin: Stdin,
+    input: &'a mut [u8],
     next: usize,
     end: usize,
+    ghost within: { (next ≤ end) × (end ≤ length input.now) },
+}
+
+// A line of a trace. What no newline ended was cut short: it is answered, and not played.
+#[derive(Clone, Copy)]
+struct Line<'a> {
+    bytes: &'a [u8],
     whole: bool,
-    ended: bool,
-    output: Output,
 }
 
-// An empty line asks nothing: where the next one begins, before the first and after each read.
-fn blank(end: usize, output: Output) -> Turn
-    ensures { (result.start ≤ result.stop) × (result.stop ≤ end) }
-{
-    Turn {
-        start: 0,
-        stop: 0,
-        next: 0,
-        end,
-        whole: true,
-        ended: false,
-        output,
+impl<'a> Trace<'a> {
+    fn new(stdin: Stdin, input: &'a mut [u8]) -> Trace<'a> {
+        Trace {
+            stdin,
+            input,
+            next: 0,
+            end: 0,
+        }
     }
-}
 
-fn started(to: Streams) -> Turn {
-    blank(
-        0,
-        Output {
-            to,
-            len: 0,
-            failed: false,
-        },
-    )
-}
+    // How long the next whole line of what was read is.
+    fn next_len(&self) -> Option<usize>
+        ensures { IfSome result (λ len. self.now.next + len < self.now.end) }
+    {
+        line_len(&self.input[self.next..self.end])
+    }
 
-// The end: the input's, or that of a console whose records or answers can't be written.
-fn over(output: Output) -> Turn
-    ensures { (result.start ≤ result.stop) × (result.stop ≤ 0) }
-{
-    Turn {
-        start: 0,
-        stop: 0,
-        next: 0,
-        end: 0,
-        whole: true,
-        ended: true,
-        output,
+    // One read of what is there, behind the line under way; whether anything came. A failed read is not the end: the line under way may
+    // go on otherwise than it stands here, and has no answer.
+    fn read_on(&mut self) -> io::Result<bool> {
+        let kept = keep(self.input, self.next, self.end);
+        self.next = 0;
+        self.end = kept;
+        let count = read_some(&mut self.stdin, &mut self.input[kept..])?;
+        self.end = kept + count;
+        Ok(0 < count)
     }
-}
 
-// One read of what is there, behind the line under way: the end of what was read, or 0 if nothing came. A failed read is not the end: the
-// line under way may go on otherwise than it stands here, and has no answer.
-fn read_behind(mut trace: Stdin, errors: Stderr, input: &mut [u8], kept: usize) -> Got
-    ensures { result.count ≤ length input.new }
-{
-    if input.len() <= kept {
-        return Got {
-            count: 0,
-            failed: None,
-        };
+    // The next line. All answers are written before each read, which could wait.
+    fn next(&mut self, answers: &mut Answers<'_>) -> Result<Line<'_>, Stop> {
+        // A proved loop has to end, and nothing says that the input does: a count that no run uses up.
+        for _ in 0..u64::MAX {
+            if let Some(len) = self.next_len() {
+                let start = self.next;
+                self.next = start + len + 1;
+                return Ok(Line {
+                    bytes: &self.input[start..start + len],
+                    whole: true,
+                });
+            }
+            answers.flush().map_err(Stop::Unwritten)?;
+            if !self.read_on().map_err(Stop::Unread)? {
+                break;
+            }
+        }
+        Ok(Line {
+            bytes: &self.input[self.next..self.end],
+            whole: false,
+        })
     }
-    let got = read_some(&mut trace, &mut input[kept..]);
-    if let Some(reason) = got.failed {
-        fail(
-            errors,
-            b"bench: standard input can't be read, so it ends here. Send the trace again from the first line that has no answer",
-            reason,
-        );
-        return got;
-    }
-    if got.count == 0 {
-        return got;
-    }
-    Got {
-        count: kept + got.count,
-        failed: None,
-    }
-}
-
-// All answers are written before the read, which could wait. What stands behind the last newline was cut short: it is answered, and not
-// played.
-fn read_on(turn: Turn, trace: Stdin, input: &mut [u8], out: &[u8; 65536]) -> Turn
-    ensures { (result.start ≤ result.stop) × (result.stop ≤ length input.new) }
-{
-    let before = turn.output;
-    let output = flush(out, before);
-    if output.failed {
-        return over(output);
-    }
-    let kept = keep(input, turn.next, turn.end);
-    let got = read_behind(trace, output.to.errors, input, kept);
-    if got.failed.is_some() {
-        return over(output);
-    }
-    if 0 < got.count {
-        return blank(got.count, output);
-    }
-    Turn {
-        start: 0,
-        stop: kept,
-        next: kept,
-        end: kept,
-        whole: false,
-        ended: false,
-        output,
-    }
-}
-
-// The place of the next newline of what was read, or its end.
-fn stop_of(input: &[u8], next: usize, end: usize) -> usize
-    ensures { result < end → (next ≤ result) × (result < length input.now) }
-{
-    if input.len() < end {
-        return end;
-    }
-    past(&input[..end], next, Over::Line)
-}
-
-// The next whole line of what was read, or a read.
-fn next_turn(turn: Turn, trace: Stdin, input: &mut [u8; 69632], out: &[u8; 65536]) -> Turn
-    ensures { (result.start ≤ result.stop) × (result.stop ≤ 69632) }
-{
-    let output = turn.output;
-    if turn.ended {
-        return over(flush(out, output));
-    }
-    let next = turn.next;
-    let end = turn.end;
-    let stop = stop_of(input, next, end);
-    if end <= stop {
-        return read_on(turn, trace, input, out);
-    }
-    Turn {
-        start: next,
-        stop,
-        next: stop + 1,
-        end,
-        whole: true,
-        ended: false,
-        output,
-    }
-}
-
-fn heard(turn: Turn, in_file: bool, input: &[u8; 69632], numbers: &mut [u64; 4096]) -> Asked
-    requires { (turn.start ≤ turn.stop) × (turn.stop ≤ 69632) }
-{
-    let start = turn.start;
-    let stop = turn.stop;
-    let bytes: &[u8] = input;
-    parse_line(&bytes[start..stop], turn.whole, in_file, numbers)
 }
 
 // The record of an accepted call is kept before its answer is gathered; where it can't be, the call has no answer.
-fn answered(
-    turn: Turn,
-    file: Option<&File>,
-    journal: &[u8],
-    before: u64,
-    after: u64,
-    out: &mut [u8; 65536],
-    said: Said,
-) -> Turn {
-    let gathered = turn.output;
-    if !is_kept(gathered.to.errors, file, journal, before, after) {
-        return over(gathered);
-    }
-    let output = say_answer(out, gathered, said, journal);
-    Turn {
-        start: turn.start,
-        stop: turn.stop,
-        next: turn.next,
-        end: turn.end,
-        whole: turn.whole,
-        ended: output.failed || !turn.whole,
-        output,
-    }
-}
-
-// `file` is the journal's file, none where the journal is memory alone. At the start all of the journal is lent.
-pub fn run(start: Session, trace: Stdin, to: Streams, file: Option<&File>, journal: &mut [u8]) {
-    let mut input = [0u8; 69632];
-    let mut out = [0u8; 65536];
+fn play(
+    start: Session,
+    trace: &mut Trace<'_>,
+    answers: &mut Answers<'_>,
+    file: Option<&JournalFile<'_>>,
+    journal: &mut [u8],
+) -> Result<(), Stop> {
     let mut numbers = [0u64; 4096];
     let mut session = start;
+    // At the start all of the journal is lent.
     let mut lent = journal.len();
-    let mut turn = started(to);
-    // A proved loop has to end, and nothing says that the input does: a count that no run uses up.
-    let mut turns = u64::MAX;
-    while turns > 0 {
-        turns -= 1;
-        let line = next_turn(turn, trace, &mut input, &out);
-        if line.ended {
-            return;
-        }
-        let asking = heard(line, file.is_some(), &input, &mut numbers);
-        let response = respond(session, journal, lent, asking, &numbers);
+    for _ in 0..u64::MAX {
+        let line = trace.next(answers)?;
+        let whole = line.whole;
+        let asked = parse_line(line.bytes, whole, file.is_some(), &mut numbers);
         let before = session.progress.records;
-        let next = response.session;
-        let said = response.said;
-        let after = answered(
-            line,
-            file,
-            journal,
-            before,
-            next.progress.records,
-            &mut out,
-            said,
-        );
-        session = next;
+        let response = respond(session, journal, lent, asked);
+        if let Some(file) = file {
+            let after = response.session.progress.records;
+            file.keep(journal, before, after).map_err(Stop::Unkept)?;
+        }
+        answers
+            .say(response.said, journal)
+            .map_err(Stop::Unwritten)?;
+        if !whole {
+            break;
+        }
+        session = response.session;
         lent = response.lent;
-        turn = after;
+    }
+    Ok(())
+}
+
+// Plays a trace, to its end or until something fails. Without a file the journal is memory alone.
+pub fn run(start: Session, streams: Streams, file: Option<&JournalFile<'_>>, journal: &mut [u8]) {
+    let mut input = [0u8; 69632];
+    let mut out = [0u8; 65536];
+    let mut trace = Trace::new(streams.trace, &mut input);
+    let mut answers = Answers::new(streams.answers, &mut out);
+    if let Err(stop) = play(start, &mut trace, &mut answers, file, journal) {
+        stop.tell(streams.errors);
+    }
+    // What was answered before the end.
+    if let Err(reason) = answers.flush() {
+        Stop::Unwritten(reason).tell(streams.errors);
     }
 }

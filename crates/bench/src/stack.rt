@@ -45,8 +45,8 @@ fn stack_limit<R: Files<File = File>>(files: &R) -> u64 {
         return u64::MAX;
     };
     let mut text = [0u8; 4096];
-    let got = read_full(&mut limits, &mut text);
-    behind(&text[..got.count], STACK).map_or(u64::MAX, number_from)
+    let count = read_full(&mut limits, &mut text).unwrap_or_else(|broken| broken.count);
+    behind(&text[..count], STACK).map_or(u64::MAX, number_from)
 }
 
 // Whether the stack may grow as far as is needed; where not, standard error says what to do.

@@ -1,2 +1,2 @@
-pub mod TakenLaws
+pub mod RunLaws
 pub mod Ties

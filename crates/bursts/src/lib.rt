@@ -1,5 +1,5 @@
 // Document 02, request 2026-02: a list of commands in one call.
 #![tactic(auto)]
 
+pub mod burst;
 pub mod pieces;
-pub mod taken;

@@ -1,26 +1,24 @@
--- A line that crosses to C: what the program's parsing hands on is what the line asks, and nothing of the outcome is left open.
+-- A line that crosses to C: nothing of the outcome is left open.
 use mathlib.Core.Path.{◌≡◌, sym, ◌∙◌}
 use mathlib.Core.List.{List}
-use Prim.Native.Nat.{ℕ}
+use Prim.Native.Nat.{ℕ, ◌-◌}
+use native.Mathlib.Omega.{arith}
 use lib.ListN.{length}
-use lib.Seq.{take-length}
 use Rattle.text.specs.Lines.{Put}
-use Rattle.session.specs.declared.state.Session.{Session}
-use Rattle.requests.specs.declared.requests.Asked.{Asked}
-use Rattle.requests.specs.Requests.{Asking, Asks}
-use Rattle.console.specs.Respond.{Outcome, outcome}
+use Rattle.console.specs.declared.respond.Response.{Response}
+use Rattle.console.specs.Respond.{Outcome, Responds}
 use Rattle.console.specs.Say.{line_text}
 use Rattle.capi.specs.declared.language.LinePlayed.{LinePlayed}
-use Rattle.capi.specs.Language.{comes_to, PlaysLine}
+use Rattle.capi.specs.Language.{PlaysLine}
 
-pub asked_comes : (a : Asking) (r : Asked) (numbers : List ℕ) (s : Session) (j : List ℕ) (lent : ℕ) → Asks a r numbers
-    → outcome s j lent r numbers ≡ comes_to a s j lent
-asked_comes a r numbers s j lent w = rw (w.row, w.numbers, take-length a.numbers)
+-- as many bytes are shown as the outcome prints
+shown_count : {o : Outcome} {r : Response} {after : List ℕ} → Responds o r after → r.said.shown.end - r.said.shown.start ≡ length o.printed
+shown_count p = omega (arith, p.place, p.end)
 
 -- the text is the outcome's own: its word, its numbers, and a space before the bytes, where there are any
 pub said : {o : Outcome} {journal before after : List ℕ} {r : LinePlayed} → PlaysLine o journal before after r
-    → Put (line_text o.row o.numbers (length o.printed)) 0 before after r.written
-said p = rw (p.responds.row, p.responds.numbers, p.responds.count) at p.text
+    → Put (line_text o.request o.numbers (length o.printed)) 0 before after r.written
+said p = rw (p.responds.request, p.responds.numbers, shown_count p.responds) at p.text
 
 -- DETERMINED, for every state value, any lent bytes, any line and any buffer
 pub line_determined : {o : Outcome} {journal journal' before after after' : List ℕ} {r r' : LinePlayed}
@@ -34,5 +32,5 @@ line_determined p q = (
   p.lent ∙ p.responds.lent ∙ sym (q.lent ∙ q.responds.lent),
   (said p).place ∙ sym (said q).place,
   p.place ∙ p.responds.place ∙ sym (q.place ∙ q.responds.place),
-  p.count ∙ p.responds.count ∙ sym (q.count ∙ q.responds.count),
+  p.count ∙ shown_count p.responds ∙ sym (q.count ∙ shown_count q.responds),
 )

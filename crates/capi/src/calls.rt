@@ -14,8 +14,9 @@ ghost use Rattle.checker.specs.Replies.{stretch_told};
 ghost use Rattle.datasheet.specs.Sheet.{picoseconds, GivesGaps};
 ghost use Rattle.capi.specs.Crossing.{status_given, ListsForC};
 
-use crate::crossing::{Gaps, ListedPart, StatusNumbers, Times, one_if, status_numbers};
-use bursts::pieces::{Burst, offer_pieces};
+use crate::crossing::{Gaps, ListedPart, StatusNumbers, Times};
+use bursts::burst::Burst;
+use bursts::pieces::offer_pieces;
 use checker::answers::{Offered, Opened, Stretch, TakenBack};
 use checker::calls::{earliest, offer, open_session, status, stretch_place, take_back};
 use datasheet::sheet::{GapsAnswer, Picoseconds, gaps_of};
@@ -92,7 +93,7 @@ pub extern "C" fn rossinhiu_take_back_5(session: Session, journal: &mut [u8]) ->
 pub extern "C" fn rossinhiu_status_5(session: Session) -> StatusNumbers
     ensures { TellsStatus session (status_given result) }
 {
-    status_numbers(status(session))
+    status(session).into()
 }
 
 #[unsafe(no_mangle)]
@@ -125,7 +126,7 @@ pub extern "C" fn rossinhiu_list_part_5(
     ListedPart {
         session: next,
         written: done.written,
-        ended: one_if(done.stopped),
+        ended: u64::from(done.stopped),
     }
 }
 

@@ -1,11 +1,12 @@
 // What crosses to C but is no answer of a call as it stands: gaps and times, a status as numbers, a listing's end.
-ghost use Rattle.std.specs.Prelude.{◌≡◌, cond};
+ghost use Rattle.std.specs.Prelude.{◌≡◌};
 ghost use Rattle.checker.specs.Replies.{status_replied};
 ghost use Rattle.capi.specs.Crossing.{status_given};
 
-use checker::answers::StatusAnswer;
+use checker::answers::Status;
 use datasheet::sheet::Picoseconds;
 use judging::answers::Answer;
+use judging::refusals::Refusal;
 use session::state::Session;
 use timing::clocks::DramCycles;
 
@@ -24,7 +25,7 @@ pub struct Times {
 }
 
 #[repr(C)]
-#[derive(Drop)]
+#[derive(Default, Drop)]
 pub struct StatusNumbers {
     pub number: u64,
     pub client: u32,
@@ -44,36 +45,25 @@ pub struct ListedPart {
     pub ended: u64,
 }
 
-pub fn status_numbers(answer: StatusAnswer) -> StatusNumbers
-    ensures { status_given result ≡ status_replied answer }
-{
-    match answer {
-        StatusAnswer::Known(s) => StatusNumbers {
-            number: Answer::ACCEPTED,
-            client: s.client,
-            opening: s.opening,
-            survivors: s.survivors,
-            depth: s.depth,
-            last: s.last.0,
-            records: s.records,
-        },
-        StatusAnswer::NoSession => StatusNumbers {
-            number: Answer::NO_SESSION,
-            client: 0,
-            opening: 0,
-            survivors: 0,
-            depth: 0,
-            last: 0,
-            records: 0,
-        },
-    }
-}
+// A status of no session is zeros beside its number.
+impl From<Option<Status>> for StatusNumbers {
+    ghost from_gives = { λ status r. status_given r ≡ status_replied status };
 
-pub fn one_if(test: bool) -> u64
-    ensures { result ≡ cond test 1 0 }
-{
-    if test {
-        return 1;
+    fn from(status: Option<Status>) -> StatusNumbers {
+        match status {
+            Some(status) => StatusNumbers {
+                number: Answer::ACCEPTED,
+                client: status.client,
+                opening: status.opening,
+                survivors: status.survivors,
+                depth: status.depth,
+                last: status.last.0,
+                records: status.records,
+            },
+            None => StatusNumbers {
+                number: Refusal::NoSession.number(),
+                ..StatusNumbers::default()
+            },
+        }
     }
-    0
 }

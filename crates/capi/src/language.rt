@@ -41,15 +41,14 @@ pub extern "C" fn rossinhiu_console_5(
     ensures { Plays session journal.old line.now given journal.new out.old out.new result }
 {
     let asking = parse_line(line, given.ended != 0, given.in_file != 0, numbers);
-    let response = respond(session, journal, given.lent, asking, numbers);
-    let next = response.session;
+    let response = respond(session, journal, given.lent, asking);
     let said = response.said;
-    let written = put_line(out, 0, said_line(said));
+    let written = put_line(out, 0, &said_line(&said));
     LinePlayed {
-        session: next,
+        session: response.session,
         lent: response.lent,
         written,
-        hex_from: said.hex_from,
-        hex_count: said.hex_count,
+        hex_from: said.shown.start,
+        hex_count: said.shown.len(),
     }
 }

@@ -1,2 +1,3 @@
 pub mod GapLaws
+pub mod StepLaws
 pub mod Ties

@@ -35,12 +35,6 @@ pub struct Status {
     pub records: u64,
 }
 
-#[derive(Drop)]
-pub enum StatusAnswer {
-    Known(Status),
-    NoSession,
-}
-
 // A part of the lent journal: where it starts and how many bytes it has.
 #[repr(C)]
 #[derive(Drop)]

@@ -2,4 +2,4 @@ mod Examples
 mod OutputLaws
 mod SayLaws
 mod RespondLaws
-pub mod BurstSaid
+mod BurstSaid

@@ -1,74 +1,84 @@
 -- Laws of responses.
-use mathlib.Core.Path.{◌≡◌, refl, sym, ◌∙◌, ap}
+use mathlib.Core.Path.{◌≡◌, refl, sym, ◌∙◌, ap, subst}
 use mathlib.Core.List.{List, [], ◌∷◌, ◌++◌}
-use Prim.Native.Nat.{ℕ, zero, suc, ◌+◌, ◌≤◌, ◌<◌}
-use native.Mathlib.Numerals.{add-one}
+use Prim.Native.Nat.{ℕ, zero, suc, ◌+◌, ◌-◌, ◌≤◌, ◌<◌}
 use native.Mathlib.Omega.{arith}
-use lib.ListN.{length, take, drop, set, replicate, length-take, length-drop, get_or-eq_default}
-use lib.Seq.{length-take-le, take-suc-set}
+use lib.ListN.{length, take, drop, length-drop, take-append-drop}
+use lib.Seq.{length-take-le}
+use denote.Param.Members.{Mut, Called}
+use Rattle.std.specs.List.{slice_index_or}
+use Rattle.std.specs.Array.{IsFromFnResultFrom, IsFromFnResult}
 use Rattle.history.specs.Answers.{Reply, Verdict}
 use Rattle.session.specs.declared.state.Session.{Session}
-use Rattle.journal.specs.Restore.{Part, part_of}
-use Rattle.statements.specs.Exact.{Left, RestoredIn, RestoreLeft, stretch_in}
+use Rattle.statements.specs.Exact.{offer_in, Left, RestoredIn, RestoreLeft}
+use Rattle.requests.specs.declared.forms.Request.{Request}
+use Rattle.requests.specs.declared.forms.Request.TheVariants as asks
 use Rattle.console.specs.declared.say.Said.{Said}
 use Rattle.console.specs.declared.respond.Response.{Response}
-use Rattle.console.specs.Say.{said_of, with_bytes, Tells}
-use Rattle.console.specs.Respond.{at, each_from, prints, says, called, restores, Responds}
+use Rattle.console.specs.declared.respond.Console.{Console}
+use Rattle.console.specs.Say.{full, said_of, with_bytes}
+use Rattle.console.specs.Console.{Performs, OffersLent}
+use Rattle.console.specs.Respond.{outcome_in, offer_at, room, at, each_from, prints, says, called, restores, Responds}
 
 abbrev pub response_of : Session → ℕ → Said → Response
 response_of s lent a = record { session = s; lent = lent; said = a }
 
--- at most two numbers
-abbrev pub numbers_of : ℕ → ℕ → ℕ → List ℕ
-numbers_of count a b = take count (a ∷ b ∷ replicate 20 0)
-
--- numbers alone
-pub tells_is : (row : ℕ) (ns : List ℕ) (a : Said) (s : Session) (lent : ℕ) (j : List ℕ) → Tells row ns a → Responds (says row ns s lent j) (response_of s lent a) j
-tells_is row ns a s lent j t =
-    record { row = t.0; numbers = t.1; place = t.2; count = t.3; printed = rw t.3; state = refl; lent = refl; journal = refl }
-
--- a call's, which saw the first bytes of the journal
-pub called_is : (row : ℕ) (said : Said) (numbers : Reply → List ℕ) (v : Verdict) (before next : Session) (lent : ℕ) (j : List ℕ) (reply : Reply) (bytes : List ℕ) → Left v before (take lent j) reply next bytes → Tells row (numbers reply) said
-    → Responds (called row numbers v before lent j) (response_of next lent said) (bytes ++ drop lent j)
-called_is row said numbers v before next lent j reply bytes left t = rw (← left.answer, ← left.state, ← left.written) (tells_is row (numbers reply) said next lent (bytes ++ drop lent j) t)
-
-module _ (row : ℕ) (count a b : ℕ) (said : Said) (e : said ≡ said_of row count a b) where
-  pub few_told : Tells row (numbers_of count a b) said
-  few_told = rw e (refl, refl, refl, refl)
-
-  pub says_is : (s : Session) (lent : ℕ) (j : List ℕ) → Responds (says row (numbers_of count a b) s lent j) (response_of s lent said) j
-  says_is s lent j = tells_is row _ said s lent j few_told
+module _ (q : Request) (ns : List ℕ) (s : Session) (lent : ℕ) (j : List ℕ) where
+  -- numbers alone
+  pub says_is : (a : Said) → a ≡ said_of q ns → Responds (says q ns s lent j) (response_of s lent a) j
+  says_is a e = rw e (record { request = refl; numbers = refl; place = refl; end = refl; printed = refl; state = refl; lent = refl; journal = refl })
 
   -- with the journal's bytes behind them
-  pub prints_is : (told : Said) (s : Session) (lent from size : ℕ) (j : List ℕ) → told ≡ with_bytes said from size → from + size ≤ length j
-      → Responds (prints row (numbers_of count a b) from (take size (drop from j)) s lent j) (response_of s lent told) j
-  prints_is told s lent from size j f room =
+  pub prints_is : (a told : Said) (from size : ℕ) → told ≡ said_of q ns → a ≡ with_bytes told (record { start = from; end = from + size }) → from + size ≤ length j
+      → Responds (prints q ns from (take size (drop from j)) s lent j) (response_of s lent a) j
+  prints_is a told from size e f room =
       let left : size ≤ length (drop from j) = simp length-drop (omega arith) in
+      let count : from + size - from ≡ size = omega arith in
       rw (f, e)
-      (record { row = refl; numbers = refl; place = refl; count = sym (length-take-le size (drop from j) left); printed = refl; state = refl; lent = refl; journal = refl })
+      (record { request = refl; numbers = refl; place = refl; end = ap (λ (n : ℕ). from + n) (sym (length-take-le size (drop from j) left)); printed = ap (λ (n : ℕ). take n (drop from j)) count; state = refl; lent = refl; journal = refl })
 
-pub restores_is : (row : ℕ) (v : RestoredIn) (next : Session) (lent : ℕ) (j : List ℕ) (number at : ℕ) (said : Said) → RestoreLeft v number at next → said ≡ said_of row 2 number at → Responds (restores row v lent j) (response_of next lent said) j
-restores_is row v next lent j number at said told e = rw (← told.answer, ← told.beside, ← told.state) (says_is row 2 number at said e next lent j)
+-- a call's answer, which saw the first bytes of the journal
+pub called_is : (q : Request) (numbers : Reply → List ℕ) (v : Verdict) (before next : Session) (lent : ℕ) (j : List ℕ) (reply : Reply) (bytes : List ℕ) (a : Said) → Left v before (take lent j) reply next bytes → a ≡ said_of q (numbers reply)
+    → Responds (called q numbers v before lent j) (response_of next lent a) (bytes ++ drop lent j)
+called_is q numbers v before next lent j reply bytes a left e = rw (← left.answer, ← left.state, ← left.written) (says_is q (numbers reply) next lent (bytes ++ drop lent j) a e)
 
--- as many bytes as the part that is handed back has
-pub stretch_size : (s : Session) (lent : ℕ) (j : List ℕ) (p : Part) (bytes : List ℕ) → p ≡ stretch_in s lent → p.start + p.size ≤ lent → lent ≤ length j
-    → bytes ≡ part_of (stretch_in s (length (take lent j))) (take lent j) → length bytes ≡ p.size
-stretch_size s lent j p bytes e inside low is =
-    let all : length (take lent j) ≡ lent = length-take-le lent j low in
-    let same : stretch_in s (length (take lent j)) ≡ p = ap (stretch_in s) all ∙ sym e in
-    let left : p.size ≤ length (drop p.start (take lent j)) = simp length-drop (omega (arith, all)) in
-    ap length (is ∙ ap (λ (q : Part). part_of q (take lent j)) same) ∙ length-take-le p.size (drop p.start (take lent j)) left
+-- a command's, offered to the lent part
+pub offered_is : (before after : Console) (ns : List ℕ) (r : Reply) (a : Said) → OffersLent before (offer_at ns 0) r after → a ≡ said_of asks.Offer (full r) → Performs asks.Offer before ns after a
+unfolding outcome_in
+offered_is before after ns r a o e =
+    let j = before.journal.now in
+    let bytes = after.journal.now in
+    let whole : take before.lent bytes ++ drop before.lent j ≡ bytes = rw (← o.kept) (take-append-drop before.lent bytes) in
+    let seen = called_is asks.Offer full _ before.session after.session before.lent j r (take before.lent bytes) a o.offered.exact e in
+    record {
+      responds = rw o.lent (subst (λ (b : List ℕ). Responds (called asks.Offer full (offer_in (room before.lent j) before.session (at ns 0) (at ns 1) (at ns 2) (at ns 3)) before.session before.lent j) (response_of after.session before.lent a) b) whole seen);
+      same = o.same;
+    }
 
--- a request's numbers
-pub nth_none : (count i : ℕ) (l : List ℕ) → count ≤ i → 0 ≡ at (take count l) i
-nth_none count i l low = sym (get_or-eq_default (take count l) 0 {n = i} (simp length-take (omega arith)))
+pub restores_is : (v : RestoredIn) (next : Session) (lent : ℕ) (j : List ℕ) (number at : ℕ) (a : Said) → RestoreLeft v number at next → a ≡ said_of asks.Restore (number ∷ at ∷ []) → Responds (restores v lent j) (response_of next lent a) j
+restores_is v next lent j number at a left e = rw (← left.answer, ← left.beside, ← left.state) (says_is asks.Restore (number ∷ at ∷ []) next lent j a e)
 
--- values stored one after another
-module _ {A : Type 0} (make : ℕ → A) where
-  each_last : (n i : ℕ) (ns : List ℕ) → each_from make (suc n) i ns ≡ each_from make n i ns ++ (make (at ns (i + n)) ∷ [])
-  unfolding each_from
-  each_last zero i ns = let here : i + 0 ≡ i = omega arith in rw here
-  each_last (suc n) i ns = let here : i + suc n ≡ suc i + n = omega arith in rw (here, ← each_last n (suc i) ns)
+-- values made of a request's numbers, place by place
+each_is : {A : Type 0} (make : ℕ → A) (n i : ℕ) (ns : List ℕ) (l : List A) → length l ≡ n → ((k : ℕ) (d : A) → k < n → slice_index_or l k d ≡ make (at ns (i + k))) → l ≡ each_from make n i ns
+unfolding each_from
+each_is make zero i ns [] size each = refl
+each_is make zero i ns (x ∷ l) size each = absurd (omega arith)
+each_is make (suc n) i ns [] size each = absurd (omega arith)
+each_is make (suc n) i ns (x ∷ l) size each =
+    let here : i + 0 ≡ i = omega arith in
+    let first : x ≡ make (at ns i) = each 0 x (omega arith) ∙ ap (λ (k : ℕ). make (at ns k)) here in
+    let rest : l ≡ each_from make n (suc i) ns =
+    each_is make n (suc i) ns l (omega arith) (λ k d low. let next : i + suc k ≡ suc i + k = omega arith in each (suc k) d (omega arith) ∙ ap (λ (m : ℕ). make (at ns m)) next) in
+    rw (first, rest) refl
 
-  pub each_next : (from : ℕ) (ns : List ℕ) (l : List A) (i : ℕ) → i < length l → take i l ≡ each_from make i from ns → take (i + 1) (set l i (make (at ns (from + i)))) ≡ each_from make (i + 1) from ns
-  each_next from ns l i low e = rw (add-one, take-suc-set l i (make (at ns (from + i))) low, each_last i from ns, e)
+-- by a closure that changes nothing
+module _ {F A : Type 0} (g : Mut F (ℕ × Unit {0}) A) (f : F) (make : ℕ → A) (from : ℕ) (ns : List ℕ) (pure : (i : ℕ) (y : A) (q : F) → Called g f (i, tt) y q → (y ≡ make (at ns (from + i))) × (q ≡ f)) where
+  made_at : (n i : ℕ) (l : List A) → IsFromFnResultFrom g f l i n → (k : ℕ) (d : A) → k < n → slice_index_or l (i + k) d ≡ make (at ns (from + (i + k)))
+  made_at zero i l made k d low = absurd (omega arith)
+  made_at (suc n) i l (q, y, here, made, more) zero d low = let none : i + 0 ≡ i = omega arith in rw none (here.1 d ∙ (pure i y q made).0)
+  made_at (suc n) i l (q, y, here, made, more) (suc k) d low =
+      let next : i + suc k ≡ i + 1 + k = omega arith in
+      rw next (made_at n (i + 1) l (subst (λ (p : F). IsFromFnResultFrom g p l (i + 1) n) (pure i y q made).1 more) k d (omega arith))
+
+  pub made_is : (n : ℕ) (l : List A) → IsFromFnResult g f l n → l ≡ each_from make n from ns
+  made_is n l made = each_is make n from ns l made.long (λ k d low. let none : 0 + k ≡ k = omega arith in subst (λ (m : ℕ). slice_index_or l m d ≡ make (at ns (from + m))) none (made_at n 0 l made.each k d low))

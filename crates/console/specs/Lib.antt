@@ -1,3 +1,4 @@
 pub mod Output
 pub mod Respond
 pub mod Say
+pub mod Console

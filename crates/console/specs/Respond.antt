@@ -1,5 +1,5 @@
 -- What a request comes to.
-use Rattle.std.specs.Prelude.{◌≡◌, cond, List, [], ◌∷◌, ◌++◌, ℕ, zero, suc, ◌+◌, ◌*◌, ◌/◌, ◌%◌, min, leb, ltb, length, take, drop, set, get_or}
+use Rattle.std.specs.Prelude.{◌≡◌, cond, List, [], ◌∷◌, ◌++◌, ℕ, zero, suc, ◌+◌, ◌*◌, ◌/◌, ◌%◌, min, leb, ltb, length, take, drop, set, get_or, slice_range}
 use Rattle.timing.specs.declared.clocks.DramCycles.{DramCycles}
 use Rattle.timing.specs.Clocks.{cycles}
 use Rattle.timing.specs.Editions.{newest}
@@ -23,18 +23,17 @@ use Rattle.statements.specs.Exact.{
   restored_at,
   restored_state,
 }
-use Rattle.requests.specs.declared.requests.Asked.{Asked}
 use Rattle.requests.specs.declared.forms.Request.{Request}
 use Rattle.requests.specs.declared.forms.Request.TheVariants as asks
-use Rattle.requests.specs.Forms.{no_form, form_at}
+use Rattle.requests.specs.Requests.{Asking}
 use Rattle.console.specs.declared.respond.Response.{Response}
 use Rattle.datasheet.specs.Sheet.{picoseconds, gaps_in}
 use Rattle.console.specs.Say.{brief, full, status_numbers, gaps_numbers, burst_numbers}
 
--- the row whose word the answer has, its numbers, the journal's bytes that are printed behind them as hexadecimal and the place where they stand, the
+-- the request whose word the answer has, its numbers, the journal's bytes that are printed behind them as hexadecimal and the place where they stand, the
 -- state, how much is lent, and the journal
 pub record Outcome : Type 0 where
-  pub row : ℕ
+  pub request : Request
   pub numbers : List ℕ
   pub printed : List ℕ
   pub place : ℕ
@@ -43,15 +42,15 @@ pub record Outcome : Type 0 where
   pub journal : List ℕ
 
 -- numbers and bytes, and numbers alone
-abbrev pub prints : ℕ → List ℕ → ℕ → List ℕ → Session → ℕ → List ℕ → Outcome
-prints row ns place printed s lent j = record { row = row; numbers = ns; printed = printed; place = place; state = s; lent = lent; journal = j }
+abbrev pub prints : Request → List ℕ → ℕ → List ℕ → Session → ℕ → List ℕ → Outcome
+prints q ns place printed s lent j = record { request = q; numbers = ns; printed = printed; place = place; state = s; lent = lent; journal = j }
 
-abbrev pub says : ℕ → List ℕ → Session → ℕ → List ℕ → Outcome
-says row ns s lent j = prints row ns 0 [] s lent j
+abbrev pub says : Request → List ℕ → Session → ℕ → List ℕ → Outcome
+says q ns s lent j = prints q ns 0 [] s lent j
 
 -- a call sees the first bytes of the journal, as many as are lent; those behind them stay
-abbrev pub called : ℕ → (Reply → List ℕ) → Verdict → Session → ℕ → List ℕ → Outcome
-called row numbers v s lent j = says row (numbers (reply_of v)) (state_after s v) lent (bytes_after (take lent j) s.progress.records v ++ drop lent j)
+abbrev pub called : Request → (Reply → List ℕ) → Verdict → Session → ℕ → List ℕ → Outcome
+called q numbers v s lent j = says q (numbers (reply_of v)) (state_after s v) lent (bytes_after (take lent j) s.progress.records v ++ drop lent j)
 
 -- a request's numbers; 0 where it has none
 abbrev pub at : List ℕ → ℕ → ℕ
@@ -85,59 +84,52 @@ offers_in (suc n) i ns = offer_at ns i ∷ offers_in n (i + 1) ns
 abbrev pub offers_of : List ℕ → List Offer
 offers_of ns = offers_in (length ns / 4) 0 ns
 
-abbrev pub bursts : ℕ → Burst Session → ℕ → List ℕ → Outcome
-bursts row b lent j = says row (burst_numbers b.count b.reply) b.left.what lent (b.left.journal ++ drop lent j)
+abbrev pub bursts : Burst Session → ℕ → List ℕ → Outcome
+bursts b lent j = says asks.Burst (burst_numbers b.count b.reply) b.left.what lent (b.left.journal ++ drop lent j)
 
 -- more than there is, is all of it
-abbrev pub lends : ℕ → ℕ → Session → List ℕ → Outcome
-lends row count s j = let n = min count (length j) in says row (n ∷ []) s n j
+abbrev pub lends : ℕ → Session → List ℕ → Outcome
+lends count s j = let n = min count (length j) in says asks.Lend (n ∷ []) s n j
 
-abbrev pub restores : ℕ → RestoredIn → ℕ → List ℕ → Outcome
-restores row v lent j = says row (restored_number v ∷ restored_at v ∷ []) (restored_state v) lent j
+abbrev pub restores : RestoredIn → ℕ → List ℕ → Outcome
+restores v lent j = says asks.Restore (restored_number v ∷ restored_at v ∷ []) (restored_state v) lent j
 
-abbrev pub pokes : ℕ → ℕ → ℕ → Session → ℕ → List ℕ → Outcome
-pokes row place byte s lent j = cond (ltb place (length j)) (says row (place ∷ byte ∷ []) s lent (set j place byte)) (says no_form [] s lent j)
+abbrev pub pokes : ℕ → ℕ → Session → ℕ → List ℕ → Outcome
+pokes place byte s lent j = cond (ltb place (length j)) (says asks.Poke (place ∷ byte ∷ []) s lent (set j place byte)) (says asks.Malformed [] s lent j)
 
-abbrev pub shows : ℕ → ℕ → ℕ → Session → ℕ → List ℕ → Outcome
-shows row from count s lent j = cond (leb (from + count) (length j)) (prints row [] from (take count (drop from j)) s lent j) (says no_form [] s lent j)
+abbrev pub shows : ℕ → ℕ → Session → ℕ → List ℕ → Outcome
+shows from count s lent j = cond (leb (from + count) (length j)) (prints asks.Bytes [] from (take count (drop from j)) s lent j) (says asks.Malformed [] s lent j)
 
 abbrev pub room : ℕ → List ℕ → ℕ
 room lent j = room_of (length (take lent j))
 
--- A REQUEST, with its row and its numbers
-unfoldable pub outcome_in : Session → List ℕ → ℕ → Request → ℕ → List ℕ → Outcome
-outcome_in s j lent asks.Nothing row ns = says row [] s lent j
-outcome_in s j lent asks.Malformed row ns = says row [] s lent j
-outcome_in s j lent asks.Open row ns = called row brief (open_in (room lent j) s (settings_of ns)) s lent j
-outcome_in s j lent asks.Offer row ns = called row full (offer_in (room lent j) s (at ns 0) (at ns 1) (at ns 2) (at ns 3)) s lent j
-outcome_in s j lent asks.Ask row ns = says row (full (earliest_in s (at ns 0) (at ns 1) (at ns 2))) s lent j
-outcome_in s j lent asks.Back row ns = called row brief (take_back_in (room lent j) s) s lent j
-outcome_in s j lent asks.Status row ns = says row (status_numbers (status_in s)) s lent j
-outcome_in s j lent asks.Stretch row ns = let part = stretch_in s lent in prints row (part.size ∷ []) part.start (part_of part j) s lent j
-outcome_in s j lent asks.Lend row ns = lends row (at ns 0) s j
-outcome_in s j lent asks.Restore row ns = restores row (restore_in (take (at ns 0) j)) lent j
-outcome_in s j lent asks.Poke row ns = pokes row (at ns 0) (at ns 1 % 256) s lent j
-outcome_in s j lent asks.Bytes row ns = shows row (at ns 0) (at ns 1) s lent j
-outcome_in s j lent asks.Gaps row ns = says row (gaps_numbers (gaps_in (picoseconds (at ns 0)) (each_from picoseconds 20 1 ns))) s lent j
-outcome_in s j lent asks.Burst row ns = bursts row (burst_in (over s (take lent j)) (offers_of ns)) lent j
+-- A REQUEST, with its numbers
+unfoldable pub outcome_in : Session → List ℕ → ℕ → Request → List ℕ → Outcome
+outcome_in s j lent asks.Nothing ns = says asks.Nothing [] s lent j
+outcome_in s j lent asks.Malformed ns = says asks.Malformed [] s lent j
+outcome_in s j lent asks.Open ns = called asks.Open brief (open_in (room lent j) s (settings_of ns)) s lent j
+outcome_in s j lent asks.Offer ns = called asks.Offer full (offer_in (room lent j) s (at ns 0) (at ns 1) (at ns 2) (at ns 3)) s lent j
+outcome_in s j lent asks.Ask ns = says asks.Ask (full (earliest_in s (at ns 0) (at ns 1) (at ns 2))) s lent j
+outcome_in s j lent asks.Back ns = called asks.Back brief (take_back_in (room lent j) s) s lent j
+outcome_in s j lent asks.Status ns = says asks.Status (status_numbers (status_in s)) s lent j
+outcome_in s j lent asks.Stretch ns = let part = stretch_in s lent in prints asks.Stretch (part.size ∷ []) part.start (part_of part j) s lent j
+outcome_in s j lent asks.Lend ns = lends (at ns 0) s j
+outcome_in s j lent asks.Restore ns = restores (restore_in (take (at ns 0) j)) lent j
+outcome_in s j lent asks.Poke ns = pokes (at ns 0) (at ns 1 % 256) s lent j
+outcome_in s j lent asks.Bytes ns = shows (at ns 0) (at ns 1) s lent j
+outcome_in s j lent asks.Gaps ns = says asks.Gaps (gaps_numbers (gaps_in (picoseconds (at ns 0)) (each_from picoseconds 20 1 ns))) s lent j
+outcome_in s j lent asks.Burst ns = bursts (burst_in (over s (take lent j)) (offers_of ns)) lent j
 
--- no more is lent than there is; the request is that of the row, and its numbers are the first of the array
-abbrev pub outcome : Session → List ℕ → ℕ → Asked → List ℕ → Outcome
-outcome s j lent a numbers = outcome_in s j (min lent (length j)) (form_at a.row).0 a.row (take a.count numbers)
+-- no more is lent than there is
+abbrev pub outcome : Session → List ℕ → ℕ → Asking → Outcome
+outcome s j lent a = outcome_in s j (min lent (length j)) a.request a.numbers
 
 pub record Responds (o : Outcome) (r : Response) (after : List ℕ) : Type 0 where
-  pub row : r.said.row ≡ o.row
-  pub numbers : take r.said.count r.said.numbers ≡ o.numbers
-  pub place : r.said.hex_from ≡ o.place
-  pub count : r.said.hex_count ≡ length o.printed
-  pub printed : take r.said.hex_count (drop r.said.hex_from after) ≡ o.printed
+  pub request : r.said.request ≡ o.request
+  pub numbers : r.said.numbers.items ≡ o.numbers
+  pub place : r.said.shown.start ≡ o.place
+  pub end : r.said.shown.end ≡ o.place + length o.printed
+  pub printed : slice_range after r.said.shown.start r.said.shown.end ≡ o.printed
   pub state : r.session ≡ o.state
   pub lent : r.lent ≡ o.lent
   pub journal : after ≡ o.journal
-
--- whatever the journal
-abbrev pub Says : ℕ → List ℕ → Session → ℕ → Response → Type 0
-Says row ns s lent r = (j : List ℕ) → Responds (says row ns s lent j) r j
-
-abbrev pub Answers : Request → ℕ → List ℕ → Session → ℕ → Response → Type 0
-Answers q row ns s lent r = (j : List ℕ) → Responds (outcome_in s j lent q row ns) r j

@@ -1,9 +1,11 @@
 -- The text of an answer's line.
-use Rattle.std.specs.Prelude.{◌≡◌, cond, List, [], ◌∷◌, ◌++◌, map, ℕ, eqb, take, replicate}
+use Rattle.std.specs.Prelude.{cond, List, [], ◌∷◌, ◌++◌, map, ℕ, ◌-◌, eqb}
+use Rattle.std.specs.declared.ops.Range.{Range}
 use Rattle.text.specs.Text.{spaced}
 use Rattle.history.specs.Answers.{Reply, Status}
 use Rattle.journal.specs.Listing.{space}
-use Rattle.requests.specs.Forms.{word_at}
+use Rattle.requests.specs.declared.forms.Request.{Request}
+use Rattle.requests.specs.Forms.{word_of}
 use Rattle.datasheet.specs.declared.sheet.GapsAnswer.{GapsAnswer}
 use Rattle.console.specs.declared.say.Said.{Said}
 
@@ -29,19 +31,16 @@ burst_numbers count r = count ∷ full r
 abbrev pub space_before : ℕ → List ℕ
 space_before count = cond (eqb count 0) [] space
 
--- THE LINE: the row's own word, numbers behind it, and a space before what is printed as hexadecimal
-unfoldable pub line_text : ℕ → List ℕ → ℕ → List ℕ
-line_text row ns count = (word_at row ++ spaced ns) ++ space_before count
+-- THE LINE: the request's own word, numbers behind it, and a space before what is printed as hexadecimal
+unfoldable pub line_text : Request → List ℕ → ℕ → List ℕ
+line_text q ns count = (word_of q ++ spaced ns) ++ space_before count
 
 abbrev pub said_text : Said → List ℕ
-said_text a = line_text a.row (take a.count a.numbers) a.hex_count
+said_text a = line_text a.request a.numbers.items (a.shown.end - a.shown.start)
 
-abbrev pub Tells : ℕ → List ℕ → Said → Type 0
-Tells row ns a = (a.row ≡ row) × (take a.count a.numbers ≡ ns) × (a.hex_from ≡ 0) × (a.hex_count ≡ 0)
+-- numbers alone, and with the journal's bytes behind them
+abbrev pub said_of : Request → List ℕ → Said
+said_of q ns = record { request = q; numbers = record { items = ns }; shown = record { start = 0; end = 0 } }
 
--- at most two numbers
-abbrev pub said_of : ℕ → ℕ → ℕ → ℕ → Said
-said_of row count a b = record { row = row; count = count; numbers = a ∷ b ∷ replicate 20 0; hex_from = 0; hex_count = 0 }
-
-abbrev pub with_bytes : Said → ℕ → ℕ → Said
-with_bytes a from count = record { row = a.row; count = a.count; numbers = a.numbers; hex_from = from; hex_count = count }
+abbrev pub with_bytes : Said → Range ℕ → Said
+with_bytes a shown = record { request = a.request; numbers = a.numbers; shown = shown }

@@ -1,5 +1,5 @@
 // Lines in what was read: input comes in pieces, and a piece may end anywhere in a line.
-ghost use Rattle.std.specs.Prelude.{◌≡◌, length, min};
+ghost use Rattle.std.specs.Prelude.{◌≡◌, length};
 ghost use Rattle.journal.specs.Restore.{put_at};
 ghost use Rattle.console.specs.Output.{under_way};
 
@@ -10,24 +10,10 @@ const MAX_KEPT: usize = 4097;
 pub fn keep(bytes: &mut [u8], from: usize, end: usize) -> usize
     ensures { (result ≡ length (under_way bytes.old from end)) × (bytes.new ≡ put_at bytes.old 0 (under_way bytes.old from end)) }
 {
-    if end <= from {
+    if end <= from || bytes.len() < end {
         return 0;
     }
-    if bytes.len() < end {
-        return 0;
-    }
-    let n = kept(end - from);
-    for i in 0..n {
-        bytes[i] = bytes[from + i];
-    }
-    n
-}
-
-fn kept(count: usize) -> usize
-    ensures { result ≡ min count 4097 }
-{
-    if count < MAX_KEPT {
-        return count;
-    }
-    MAX_KEPT
+    let kept = (end - from).min(MAX_KEPT);
+    bytes.copy_within(from..from + kept, 0);
+    kept
 }

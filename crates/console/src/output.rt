@@ -1,43 +1,15 @@
-// Answers gathered in a buffer.
-ghost use Rattle.std.specs.Prelude.{◌≡◌, [], ◌∷◌, ◌<◌};
+// Bytes as text, gathered in a buffer.
 ghost use Rattle.text.specs.Lines.{Put};
-ghost use Rattle.console.specs.Output.{hex_digit, hex_text};
+ghost use Rattle.console.specs.Output.{hex_text};
 
-// The digit of a number below 16.
-fn hex_digit(n: u8) -> u8
-    requires { n < 16 }
-    ensures { result ≡ hex_digit n }
-{
-    if n < 10 {
-        return 48 + n;
-    }
-    87 + n
-}
-
-pub fn put_byte(out: &mut [u8], at: usize, byte: u8) -> usize
-    ensures { Put (byte ∷ []) at out.old out.new result }
-{
-    if out.len() <= at {
-        return at;
-    }
-    out[at] = byte;
-    at + 1
-}
-
-// Bytes as lower-case hexadecimal.
+// Bytes as lower-case hexadecimal into a buffer, and the place behind them; where there is no room for all of them, nothing.
 pub fn put_hex(out: &mut [u8], at: usize, bytes: &[u8]) -> usize
     ensures { Put (hex_text bytes.now) at out.old out.new result }
 {
-    if out.len() < at {
+    let end = at.saturating_add(2 * bytes.len());
+    if out.len() < end {
         return at;
     }
-    if (out.len() - at) / 2 < bytes.len() {
-        return at;
-    }
-    for i in 0..bytes.len() {
-        let byte = bytes[i];
-        out[at + 2 * i] = hex_digit(byte / 16);
-        out[at + 2 * i + 1] = hex_digit(byte % 16);
-    }
-    at + 2 * bytes.len()
+    hex::encode_to_slice(bytes, &mut out[at..end]).unwrap();
+    end
 }

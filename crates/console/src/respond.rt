@@ -1,18 +1,20 @@
 // A request performed: the call, and the answer.
-ghost use Rattle.std.specs.Prelude.{◌≡◌, ℕ, ◌≤◌, ◌<◌, min, List, [], length, take, get_or};
-ghost use Rattle.session.specs.declared.state.Session.{Session};
+ghost use Rattle.std.specs.Prelude.{◌≡◌, ℕ, ◌≤◌, List, length};
 ghost use Rattle.requests.specs.declared.forms.Request.TheVariants as asks;
+ghost use Rattle.requests.specs.Requests.{asking_of};
 ghost use Rattle.datasheet.specs.Sheet.{picoseconds};
-ghost use Rattle.console.specs.Respond.{each_from, gap_from, outcome_in, outcome, Responds, Says, Answers};
+ghost use Rattle.judging.specs.Judged.{reply_in};
+ghost use Rattle.console.specs.Respond.{at, each_from, gap_from, offer_at, outcome, Responds};
 
 use crate::say::{Said, answer_said, burst_said, gaps_said, numbered, status_said, with_bytes};
-use checker::calls::{earliest, offer, open_session, status, stretch, stretch_place, take_back};
-use datasheet::sheet::Picoseconds;
+use checker::calls::{earliest, offer, open_session, status, stretch_place, take_back};
+use datasheet::sheet::{self, Picoseconds};
 use judging::answers::Answer;
-use requests::forms::{Request, form_at};
-use requests::requests::{Asked, NO_FORM};
+use requests::forms::Request;
+use requests::requests::Asked;
 use restoring::restore::restore;
 use session::state::Session;
+use std::array;
 use timing::clocks::{ControllerCycles, DramCycles};
 
 // The state after a request, what is lent, and the answer.
@@ -23,368 +25,207 @@ pub struct Response {
     pub said: Said,
 }
 
-fn smaller(a: u64, b: usize) -> usize
-    ensures { result ≡ min a b }
-{
-    if a < b as u64 {
-        return a as usize;
-    }
-    b
+// The state, and the journal, of which the calls see the first `lent` bytes.
+#[derive(Drop)]
+struct Console<'a> {
+    session: Session,
+    journal: &'a mut [u8],
+    lent: usize,
+    ghost within: { lent ≤ length journal.now },
 }
 
-// A number of a request; 0 where it has none.
-fn nth(numbers: &[u64; 4096], asking: Asked, i: usize) -> u64
-    requires { i < 4096 }
-    ensures { result ≡ get_or (take asking.count numbers.now) i 0 }
+// A request's number; 0 where it has none.
+fn number_at(numbers: &[u64], i: usize) -> u64
+    ensures { result ≡ at numbers.now i }
 {
-    if asking.count <= i {
-        return 0;
-    }
-    numbers[i]
+    numbers.get(i).copied().unwrap_or(0)
 }
 
 // The twenty gaps behind the four first numbers of an opening.
-fn gaps_of(numbers: &[u64; 4096], asking: Asked) -> [DramCycles; 20]
-    ensures { result ≡ each_from gap_from 20 4 (take asking.count numbers.now) }
+fn gaps_of(numbers: &[u64]) -> [DramCycles; 20]
+    ensures { result ≡ each_from gap_from 20 4 numbers.now }
 {
-    let mut gaps = [DramCycles(0); 20];
-    let mut i = 0;
-    while i < 20 {
-        let gap = DramCycles((nth(numbers, asking, 4 + i) % 65536) as u16);
-        gaps[i] = gap;
-        i += 1;
-    }
-    gaps
-}
-
-fn plain(session: Session, lent: usize, row: usize) -> Response
-    ensures { Says row [] session lent result }
-{
-    let said = numbered(row, 0, 0, 0);
-    Response {
-        session,
-        lent,
-        said,
-    }
-}
-
-fn to_open(
-    session: Session,
-    journal: &mut [u8],
-    lent: usize,
-    asking: Asked,
-    numbers: &[u64; 4096],
-) -> Response
-    requires { lent ≤ length journal.old }
-    ensures { Responds (outcome_in session journal.old lent asks.Open asking.row (take asking.count numbers.now)) result journal.new }
-{
-    let ratio = nth(numbers, asking, 0);
-    let ranks = nth(numbers, asking, 1);
-    let mode = nth(numbers, asking, 2);
-    let client = (nth(numbers, asking, 3) % 4294967296) as u32;
-    let gaps = gaps_of(numbers, asking);
-    let done = open_session(
-        session,
-        &mut journal[..lent],
-        ratio,
-        ranks,
-        mode,
-        client,
-        gaps,
-    );
-    let next = done.session;
-    let said = numbered(asking.row, 1, done.number, 0);
-    Response {
-        session: next,
-        lent,
-        said,
-    }
-}
-
-fn to_offer(
-    session: Session,
-    journal: &mut [u8],
-    lent: usize,
-    asking: Asked,
-    numbers: &[u64; 4096],
-) -> Response
-    requires { lent ≤ length journal.old }
-    ensures { Responds (outcome_in session journal.old lent asks.Offer asking.row (take asking.count numbers.now)) result journal.new }
-{
-    let kind = nth(numbers, asking, 0);
-    let rank = nth(numbers, asking, 1);
-    let bank = nth(numbers, asking, 2);
-    let cycle = ControllerCycles(nth(numbers, asking, 3));
-    let done = offer(session, &mut journal[..lent], kind, rank, bank, cycle);
-    let next = done.session;
-    let reply = done.answer;
-    let said = answer_said(asking.row, reply);
-    Response {
-        session: next,
-        lent,
-        said,
-    }
-}
-
-fn to_ask(session: Session, lent: usize, asking: Asked, numbers: &[u64; 4096]) -> Response
-    ensures { Answers asks.Ask asking.row (take asking.count numbers.now) session lent result }
-{
-    let kind = nth(numbers, asking, 0);
-    let rank = nth(numbers, asking, 1);
-    let bank = nth(numbers, asking, 2);
-    let reply = earliest(session, kind, rank, bank);
-    let said = answer_said(asking.row, reply);
-    Response {
-        session,
-        lent,
-        said,
-    }
-}
-
-fn to_back(session: Session, journal: &mut [u8], lent: usize, row: usize) -> Response
-    requires { lent ≤ length journal.old }
-    ensures { (ns : List ℕ) → Responds (outcome_in session journal.old lent asks.Back row ns) result journal.new }
-{
-    let done = take_back(session, &mut journal[..lent]);
-    let next = done.session;
-    let said = numbered(row, 1, done.number, 0);
-    Response {
-        session: next,
-        lent,
-        said,
-    }
-}
-
-fn to_status(session: Session, lent: usize, row: usize) -> Response
-    ensures { (ns : List ℕ) → Answers asks.Status row ns session lent result }
-{
-    let said = status_said(row, status(session));
-    Response {
-        session,
-        lent,
-        said,
-    }
-}
-
-fn to_stretch(session: Session, journal: &[u8], lent: usize, row: usize) -> Response
-    requires { lent ≤ length journal.now }
-    ensures { (ns : List ℕ) → Responds (outcome_in session journal.now lent asks.Stretch row ns) result journal.now }
-{
-    let place = stretch_place(session, lent);
-    let part = stretch(session, &journal[..lent]);
-    let size = part.len();
-    let said = with_bytes(numbered(row, 1, size as u64, 0), place.start, size);
-    Response {
-        session,
-        lent,
-        said,
-    }
-}
-
-fn to_lend(session: Session, journal: &[u8], asking: Asked, numbers: &[u64; 4096]) -> Response
-    ensures { (lent : ℕ) → Responds (outcome_in session journal.now lent asks.Lend asking.row (take asking.count numbers.now)) result journal.now }
-{
-    let lent = smaller(nth(numbers, asking, 0), journal.len());
-    let said = numbered(asking.row, 1, lent as u64, 0);
-    Response {
-        session,
-        lent,
-        said,
-    }
-}
-
-fn to_restore(journal: &[u8], lent: usize, asking: Asked, numbers: &[u64; 4096]) -> Response
-    ensures { (s : Session) → Responds (outcome_in s journal.now lent asks.Restore asking.row (take asking.count numbers.now)) result journal.now }
-{
-    let n = smaller(nth(numbers, asking, 0), journal.len());
-    let done = restore(&journal[..n]);
-    let next = done.session;
-    let said = numbered(asking.row, 2, done.number, done.record);
-    Response {
-        session: next,
-        lent,
-        said,
-    }
-}
-
-fn to_poke(
-    session: Session,
-    journal: &mut [u8],
-    lent: usize,
-    asking: Asked,
-    numbers: &[u64; 4096],
-) -> Response
-    ensures { Responds (outcome_in session journal.old lent asks.Poke asking.row (take asking.count numbers.now)) result journal.new }
-{
-    let at = nth(numbers, asking, 0);
-    let byte = (nth(numbers, asking, 1) % 256) as u8;
-    if journal.len() as u64 <= at {
-        return plain(session, lent, NO_FORM);
-    }
-    let place = at as usize;
-    journal[place] = byte;
-    let said = numbered(asking.row, 2, at, byte as u64);
-    Response {
-        session,
-        lent,
-        said,
-    }
-}
-
-fn to_bytes(
-    session: Session,
-    journal: &[u8],
-    lent: usize,
-    asking: Asked,
-    numbers: &[u64; 4096],
-) -> Response
-    ensures { Responds (outcome_in session journal.now lent asks.Bytes asking.row (take asking.count numbers.now)) result journal.now }
-{
-    let from = nth(numbers, asking, 0);
-    let wanted = nth(numbers, asking, 1);
-    let len = journal.len() as u64;
-    if len < wanted {
-        return plain(session, lent, NO_FORM);
-    }
-    if len - wanted < from {
-        return plain(session, lent, NO_FORM);
-    }
-    let said = with_bytes(
-        numbered(asking.row, 0, 0, 0),
-        from as usize,
-        wanted as usize,
-    );
-    Response {
-        session,
-        lent,
-        said,
-    }
+    array::from_fn(|i| DramCycles((number_at(numbers, 4 + i) % 65536) as u16))
 }
 
 // The twenty times behind the tCK of a data sheet.
-fn times_of(numbers: &[u64; 4096], asking: Asked) -> [Picoseconds; 20]
-    ensures { result ≡ each_from picoseconds 20 1 (take asking.count numbers.now) }
+fn times_of(numbers: &[u64]) -> [Picoseconds; 20]
+    ensures { result ≡ each_from picoseconds 20 1 numbers.now }
 {
-    let mut times = [Picoseconds(0); 20];
-    let mut i = 0;
-    while i < 20 {
-        let time = Picoseconds(nth(numbers, asking, 1 + i));
-        times[i] = time;
-        i += 1;
-    }
-    times
+    array::from_fn(|i| Picoseconds(number_at(numbers, 1 + i)))
 }
 
-fn to_gaps(session: Session, lent: usize, asking: Asked, numbers: &[u64; 4096]) -> Response
-    ensures { Answers asks.Gaps asking.row (take asking.count numbers.now) session lent result }
-{
-    let tck = Picoseconds(nth(numbers, asking, 0));
-    let times = times_of(numbers, asking);
-    let given = datasheet::sheet::gaps_of(tck, times);
-    let gaps = given.gaps;
-    let said = gaps_said(asking.row, given.number, given.gap_number, gaps);
-    Response {
-        session,
-        lent,
-        said,
-    }
-}
+impl Console<'_> {
+    ghost use Rattle.console.specs.Console.{Answers, OffersLent, Performs};
 
-// A number of a burst; 0 where it has none.
-fn nth_of(numbers: &[u64], asking: Asked, i: usize) -> u64
-    ensures { result ≡ get_or (take asking.count numbers.now) i 0 }
-{
-    if asking.count <= i {
-        return 0;
+    fn open(&mut self, numbers: &[u64]) -> Said
+        ensures { Performs asks.Open self.old numbers.now self.new result }
+    {
+        let done = open_session(
+            self.session,
+            &mut self.journal[..self.lent],
+            number_at(numbers, 0),
+            number_at(numbers, 1),
+            number_at(numbers, 2),
+            (number_at(numbers, 3) % 4294967296) as u32,
+            gaps_of(numbers),
+        );
+        self.session = done.session;
+        numbered(Request::Open, &[done.number])
     }
-    if numbers.len() <= i {
-        return 0;
-    }
-    numbers[i]
-}
 
-// The commands of a burst, each offered by itself.
-fn to_burst(
-    mut session: Session,
-    journal: &mut [u8],
-    lent: usize,
-    asking: Asked,
-    numbers: &[u64],
-) -> Response
-    requires { lent ≤ length journal.old }
-    ensures { Responds (outcome_in session journal.old lent asks.Burst asking.row (take asking.count numbers.now)) result journal.new }
-{
-    let commands = smaller(asking.count as u64, numbers.len()) / 4;
-    let mut i = 0;
-    while i < commands {
-        let kind = nth_of(numbers, asking, 4 * i);
-        let rank = nth_of(numbers, asking, 4 * i + 1);
-        let bank = nth_of(numbers, asking, 4 * i + 2);
-        let cycle = ControllerCycles(nth_of(numbers, asking, 4 * i + 3));
-        let done = offer(session, &mut journal[..lent], kind, rank, bank, cycle);
-        let answer = done.answer;
-        if answer.number != Answer::ACCEPTED {
-            let said = burst_said(asking.row, i as u64, answer);
-            return Response {
-                session,
-                lent,
-                said,
-            };
+    fn offer_one(&mut self, command: [u64; 4]) -> Answer
+        ensures { OffersLent self.old (offer_at command 0) (reply_in result) self.new }
+    {
+        let [kind, rank, bank, cycle] = command;
+        let lent = &mut self.journal[..self.lent];
+        let done = offer(
+            self.session,
+            lent,
+            kind,
+            rank,
+            bank,
+            ControllerCycles(cycle),
+        );
+        self.session = done.session;
+        done.answer
+    }
+
+    fn offer(&mut self, numbers: &[u64]) -> Said
+        ensures { Performs asks.Offer self.old numbers.now self.new result }
+    {
+        let command = array::from_fn(|i| number_at(numbers, i));
+        answer_said(Request::Offer, self.offer_one(command))
+    }
+
+    // The commands of a burst, each offered by itself.
+    fn burst(&mut self, numbers: &[u64]) -> Said
+        ensures { Performs asks.Burst self.old numbers.now self.new result }
+    {
+        let (commands, _) = numbers.as_chunks::<4>();
+        for (accepted, command) in commands.iter().enumerate() {
+            let answer = self.offer_one(*command);
+            if answer.number != Answer::ACCEPTED {
+                return burst_said(accepted as u64, answer);
+            }
         }
-        let next = done.session;
-        session = next;
-        i += 1;
+        burst_said(commands.len() as u64, Answer::plain(Answer::ACCEPTED))
     }
-    let said = burst_said(asking.row, i as u64, Answer::plain(Answer::ACCEPTED));
-    Response {
-        session,
-        lent,
-        said,
-    }
-}
 
-fn performed(
-    session: Session,
-    journal: &mut [u8],
-    lent: usize,
-    request: Request,
-    asking: Asked,
-    numbers: &[u64; 4096],
-) -> Response
-    requires { lent ≤ length journal.old }
-    ensures { Responds (outcome_in session journal.old lent request asking.row (take asking.count numbers.now)) result journal.new }
-{
-    let row = asking.row;
-    match request {
-        Request::Nothing => plain(session, lent, row),
-        Request::Malformed => plain(session, lent, row),
-        Request::Open => to_open(session, journal, lent, asking, numbers),
-        Request::Offer => to_offer(session, journal, lent, asking, numbers),
-        Request::Ask => to_ask(session, lent, asking, numbers),
-        Request::Back => to_back(session, journal, lent, row),
-        Request::Status => to_status(session, lent, row),
-        Request::Stretch => to_stretch(session, journal, lent, row),
-        Request::Lend => to_lend(session, journal, asking, numbers),
-        Request::Restore => to_restore(journal, lent, asking, numbers),
-        Request::Poke => to_poke(session, journal, lent, asking, numbers),
-        Request::Bytes => to_bytes(session, journal, lent, asking, numbers),
-        Request::Gaps => to_gaps(session, lent, asking, numbers),
-        Request::Burst => to_burst(session, journal, lent, asking, numbers),
+    fn ask(&self, numbers: &[u64]) -> Said
+        ensures { Answers asks.Ask self.now numbers.now result }
+    {
+        let kind = number_at(numbers, 0);
+        let rank = number_at(numbers, 1);
+        let bank = number_at(numbers, 2);
+        answer_said(Request::Ask, earliest(self.session, kind, rank, bank))
+    }
+
+    fn back(&mut self) -> Said
+        ensures { (ns : List ℕ) → Performs asks.Back self.old ns self.new result }
+    {
+        let done = take_back(self.session, &mut self.journal[..self.lent]);
+        self.session = done.session;
+        numbered(Request::Back, &[done.number])
+    }
+
+    fn status(&self) -> Said
+        ensures { (ns : List ℕ) → Answers asks.Status self.now ns result }
+    {
+        status_said(status(self.session))
+    }
+
+    fn stretch(&self) -> Said
+        ensures { (ns : List ℕ) → Answers asks.Stretch self.now ns result }
+    {
+        let part = stretch_place(self.session, self.lent);
+        let said = numbered(Request::Stretch, &[part.size as u64]);
+        with_bytes(said, part.start..part.start + part.size)
+    }
+
+    fn lend(&mut self, numbers: &[u64]) -> Said
+        ensures { Performs asks.Lend self.old numbers.now self.new result }
+    {
+        let lent = number_at(numbers, 0).min(self.journal.len() as u64);
+        self.lent = lent as usize;
+        numbered(Request::Lend, &[lent])
+    }
+
+    fn restore(&mut self, numbers: &[u64]) -> Said
+        ensures { Performs asks.Restore self.old numbers.now self.new result }
+    {
+        let count = number_at(numbers, 0).min(self.journal.len() as u64);
+        let whole = &mut self.journal[..count as usize];
+        let done = restore(whole);
+        self.session = done.session;
+        numbered(Request::Restore, &[done.number, done.record])
+    }
+
+    fn poke(&mut self, numbers: &[u64]) -> Said
+        ensures { Performs asks.Poke self.old numbers.now self.new result }
+    {
+        let place = number_at(numbers, 0);
+        let byte = (number_at(numbers, 1) % 256) as u8;
+        if self.journal.len() as u64 <= place {
+            return numbered(Request::Malformed, &[]);
+        }
+        self.journal[place as usize] = byte;
+        numbered(Request::Poke, &[place, u64::from(byte)])
+    }
+
+    fn bytes(&self, numbers: &[u64]) -> Said
+        ensures { Answers asks.Bytes self.now numbers.now result }
+    {
+        let from = number_at(numbers, 0);
+        let end = from.saturating_add(number_at(numbers, 1));
+        if (self.journal.len() as u64) < end {
+            return numbered(Request::Malformed, &[]);
+        }
+        with_bytes(numbered(Request::Bytes, &[]), from as usize..end as usize)
+    }
+
+    fn gaps(&self, numbers: &[u64]) -> Said
+        ensures { Answers asks.Gaps self.now numbers.now result }
+    {
+        let tck = Picoseconds(number_at(numbers, 0));
+        gaps_said(&sheet::gaps_of(tck, times_of(numbers)))
+    }
+
+    fn perform(&mut self, request: Request, numbers: &[u64]) -> Said
+        ensures { Performs request self.old numbers.now self.new result }
+    {
+        match request {
+            Request::Nothing => numbered(Request::Nothing, &[]),
+            Request::Malformed => numbered(Request::Malformed, &[]),
+            Request::Open => self.open(numbers),
+            Request::Offer => self.offer(numbers),
+            Request::Ask => self.ask(numbers),
+            Request::Back => self.back(),
+            Request::Status => self.status(),
+            Request::Stretch => self.stretch(),
+            Request::Lend => self.lend(numbers),
+            Request::Restore => self.restore(numbers),
+            Request::Poke => self.poke(numbers),
+            Request::Bytes => self.bytes(numbers),
+            Request::Gaps => self.gaps(numbers),
+            Request::Burst => self.burst(numbers),
+        }
     }
 }
 
 // Calls see the first `lent` bytes of the journal, no more than there are; `restore`, `poke` and `bytes` see all of it.
-pub fn respond(
-    session: Session,
-    journal: &mut [u8],
-    lent: usize,
-    asking: Asked,
-    numbers: &[u64; 4096],
-) -> Response
-    ensures { Responds (outcome session journal.old lent asking numbers.now) result journal.new }
+pub fn respond(session: Session, journal: &mut [u8], lent: usize, asking: Asked) -> Response
+    ensures { Responds (outcome session journal.old lent (asking_of asking.entry)) result journal.new }
 {
-    let room = smaller(lent as u64, journal.len());
-    let form = form_at(asking.row);
-    let request = form.0;
-    performed(session, journal, room, request, asking, numbers)
+    let mut console = Console {
+        session,
+        lent: lent.min(journal.len()),
+        journal,
+    };
+    let said = console.perform(asking.request, asking.numbers);
+    Response {
+        session: console.session,
+        lent: console.lent,
+        said,
+    }
 }

@@ -1,10 +1,10 @@
 -- Document 02, request 2026-01: a tCK of 1 to 1,000,000 ps and twenty times in ps, each below 4,294,967,296, give the twenty gaps.
-use Rattle.std.specs.Prelude.{◌≡◌, Bool, cond, ◌&&◌, ◌||◌, List, [], ◌∷◌, map, ℕ, ◌+◌, eqb, leb, ltb, replicate}
+use Rattle.std.specs.Prelude.{◌≡◌, Bool, cond, ◌&&◌, ◌||◌, List, [], ◌∷◌, map, ℕ, ◌+◌, eqb, leb, ltb, replicate, Option, Some, None, Result, Ok, Err}
 use Rattle.timing.specs.declared.clocks.DramCycles.{DramCycles}
 use Rattle.timing.specs.Clocks.{ceil_div}
 use Rattle.datasheet.specs.declared.sheet.Picoseconds.{Picoseconds}
-use Rattle.datasheet.specs.declared.sheet.Judged.{Judged}
-use Rattle.datasheet.specs.declared.sheet.Judged.TheVariants.{Gap, Faulty}
+use Rattle.datasheet.specs.declared.sheet.SheetFault.{SheetFault}
+use Rattle.datasheet.specs.declared.sheet.SheetFault.TheVariants.{Tck, Time}
 use Rattle.datasheet.specs.declared.sheet.GapsAnswer.{GapsAnswer}
 
 abbrev pub dram : ℕ → DramCycles
@@ -34,8 +34,8 @@ abbrev pub faulty : Picoseconds → Picoseconds → Bool
 faulty tck time = leb time_bound time.0 || ltb last_gap (gap_for tck time)
 
 -- the only step from picoseconds to DRAM cycles
-abbrev pub judged_at : Picoseconds → Picoseconds → Judged
-judged_at tck time = cond (faulty tck time) Faulty (Gap (dram (gap_for tck time)))
+abbrev pub judged_at : Picoseconds → Picoseconds → Option DramCycles
+judged_at tck time = cond (faulty tck time) None (Some (dram (gap_for tck time)))
 
 unfoldable pub gaps_for : Picoseconds → List Picoseconds → List DramCycles
 gaps_for tck times = map (λ time. dram (gap_for tck time)) times
@@ -51,6 +51,12 @@ zeros number gap = record { number = number; gap_number = gap; gaps = replicate 
 
 abbrev pub accepted : List DramCycles → GapsAnswer
 accepted gaps = record { number = 0; gap_number = 0; gaps = gaps }
+
+-- what the gaps, or what is wrong with the sheet, come to
+abbrev pub answer_of : Result (List DramCycles) SheetFault → GapsAnswer
+answer_of (Ok gaps) = accepted gaps
+answer_of (Err Tck) = zeros 13 0
+answer_of (Err (Time n)) = zeros 14 n
 
 -- 14 with the lowest gap number, or the gaps
 abbrev pub gaps_reply : Picoseconds → List Picoseconds → ℕ → GapsAnswer

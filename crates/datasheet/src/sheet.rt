@@ -1,6 +1,6 @@
 // The times of a data sheet are in picoseconds, a third kind of number beside the two clocks'; only `judged` goes from them to DRAM cycles.
 ghost use Rattle.std.specs.Prelude.{◌≡◌, ◌<◌, ◌≤◌};
-ghost use Rattle.datasheet.specs.Sheet.{last_tck, tck_in_range, judged_at, zeros, GivesGaps};
+ghost use Rattle.datasheet.specs.Sheet.{last_tck, tck_in_range, judged_at, zeros, answer_of, GivesGaps};
 
 use timing::clocks::DramCycles;
 
@@ -8,11 +8,11 @@ use timing::clocks::DramCycles;
 #[derive(Clone, Copy)]
 pub struct Picoseconds(pub u64);
 
-// A time out of range, or a gap above 65,535, is a fault.
-#[derive(Drop)]
-enum Judged {
-    Gap(DramCycles),
-    Faulty,
+// What is wrong with a sheet: its tCK, or the time of the lowest gap number that has a fault.
+#[derive(Debug, Clone, Copy, PartialEq, Eq)]
+enum SheetFault {
+    Tck,
+    Time { gap_number: u64 },
 }
 
 // Number, gap number and the twenty gaps, gap 1 first. It crosses to C as it is.
@@ -29,29 +29,22 @@ impl Picoseconds {
 
     const TIME_BOUND: u64 = 4294967296;
 
-    const LAST_GAP: u64 = 65535;
-
     fn tck_in_range(self) -> bool
         ensures { result ≡ tck_in_range self }
     {
-        1 <= self.0 && self.0 <= Picoseconds::LAST_TCK
+        (1..=Picoseconds::LAST_TCK).contains(&self.0)
     }
 
-    // The fewest DRAM cycles that last at least this time. A time out of range is a fault whatever its gap; below that no sum overflows.
-    fn judged(self, tck: Picoseconds) -> Judged
+    // The fewest DRAM cycles that last at least this time, or none: a time out of range or a gap above 65,535 is a fault.
+    fn judged(self, tck: Picoseconds) -> Option<DramCycles>
         requires { (0 < tck.0) × (tck.0 ≤ last_tck) }
         ensures { result ≡ judged_at tck self }
     {
-        let time = self.0;
-        let period = tck.0;
-        if Picoseconds::TIME_BOUND <= time {
-            return Judged::Faulty;
+        if Picoseconds::TIME_BOUND <= self.0 {
+            return None;
         }
-        let gap = (time + (period - 1)) / period;
-        if Picoseconds::LAST_GAP < gap {
-            return Judged::Faulty;
-        }
-        Judged::Gap(DramCycles(gap as u16))
+        let gap = u16::try_from(self.0.div_ceil(tck.0)).ok()?;
+        Some(DramCycles(gap))
     }
 }
 
@@ -74,22 +67,33 @@ impl GapsAnswer {
     }
 }
 
+fn sheet_gaps(tck: Picoseconds, times: [Picoseconds; 20]) -> Result<[DramCycles; 20], SheetFault>
+    ensures { GivesGaps tck times (answer_of result) }
+{
+    if !tck.tck_in_range() {
+        return Err(SheetFault::Tck);
+    }
+    let mut gaps = [DramCycles(0); 20];
+    for (place, time) in times.iter().enumerate() {
+        let Some(gap) = time.judged(tck) else {
+            let gap_number = place as u64 + 1;
+            return Err(SheetFault::Time { gap_number });
+        };
+        gaps[place] = gap;
+    }
+    Ok(gaps)
+}
+
 pub fn gaps_of(tck: Picoseconds, times: [Picoseconds; 20]) -> GapsAnswer
     ensures { GivesGaps tck times result }
 {
-    if !tck.tck_in_range() {
-        return GapsAnswer::zeros(GapsAnswer::BAD_TCK, 0);
+    match sheet_gaps(tck, times) {
+        Ok(gaps) => GapsAnswer {
+            number: GapsAnswer::ACCEPTED,
+            gap_number: 0,
+            gaps,
+        },
+        Err(SheetFault::Tck) => GapsAnswer::zeros(GapsAnswer::BAD_TCK, 0),
+        Err(SheetFault::Time { gap_number }) => GapsAnswer::zeros(GapsAnswer::BAD_TIME, gap_number),
     }
-    let mut answer = GapsAnswer::zeros(GapsAnswer::ACCEPTED, 0);
-    let mut i = 0;
-    while i < 20 {
-        let time = times[i];
-        let judged = time.judged(tck);
-        let Judged::Gap(gap) = judged else {
-            return GapsAnswer::zeros(GapsAnswer::BAD_TIME, i as u64 + 1);
-        };
-        answer.gaps[i] = gap;
-        i += 1;
-    }
-    answer
 }

@@ -8,9 +8,9 @@ use lib.Dec.{eqb, ltb}
 use lib.ListN.{length, take}
 use lib.Seq.{take_all}
 use borrow.Author.Tests.{eq-eqb, ne_eqb, ltb-true, ltb-false}
+use Rattle.std.specs.Prelude.{Option, Some, None}
 use Rattle.history.specs.Records.{Record, History}
 use Rattle.history.specs.Answers.{max_records, record_size}
-use Rattle.journal.specs.Bytes.{Held, holding, nothing}
 use Rattle.journal.specs.Restore.{whole_records, taken, bad_at, restored, replay, restore_of}
 use Rattle.journal.specs.Listing.{record_line, bad_line, end_line, listed, lines, listing}
 use Rattle.journal.proofs.PieceLaws.{length_pieces}
@@ -23,18 +23,18 @@ data From (bs : List (List ℕ)) (h : History) (m loose : ℕ) (text : List ℕ)
   all : (g : History) → length bs ≤ m → replay (take m bs) h ≡ restored g → length g ≡ length h + length bs → text ≡ record_lines g ++ end_line (length g) loose → From bs h m loose text
 
 -- record 16,777,216 ends it
-full : (b : List ℕ) (bs : List (List ℕ)) (h : History) (loose : ℕ) (k : Held) → length h ≡ max_records
+full : (b : List ℕ) (bs : List (List ℕ)) (h : History) (loose : ℕ) (k : Option Record) → length h ≡ max_records
     → From (b ∷ bs) h 0 loose (record_lines h ++ listed (length h) k (λ r. lines bs (r ∷ h) loose))
 unfolding replay
-full b bs h loose nothing e = many h (omega arith) refl (ap (λ (n : ℕ). record_lines h ++ bad_line n) e)
-full b bs h loose (holding r) e = many h (omega arith) refl (rw (eq-eqb (length h) max_records e) (ap (λ (n : ℕ). record_lines h ++ bad_line n) e))
+full b bs h loose None e = many h (omega arith) refl (ap (λ (n : ℕ). record_lines h ++ bad_line n) e)
+full b bs h loose (Some r) e = many h (omega arith) refl (rw (eq-eqb (length h) max_records e) (ap (λ (n : ℕ). record_lines h ++ bad_line n) e))
 
-step : (b : List ℕ) (bs : List (List ℕ)) (h : History) (m loose : ℕ) (k : Held) → taken h b ≡ k → length h + suc m ≡ max_records
+step : (b : List ℕ) (bs : List (List ℕ)) (h : History) (m loose : ℕ) (k : Option Record) → taken h b ≡ k → length h + suc m ≡ max_records
     → ((r : Record) → From bs (r ∷ h) m loose (record_lines (r ∷ h) ++ lines bs (r ∷ h) loose))
     → From (b ∷ bs) h (suc m) loose (record_lines h ++ listed (length h) k (λ r. lines bs (r ∷ h) loose))
 unfolding replay record_lines
-step b bs h m loose nothing is e on = bad (length h) h (rw is) refl refl
-step b bs h m loose (holding r) is e on = again (on r)
+step b bs h m loose None is e on = bad (length h) h (rw is) refl refl
+step b bs h m loose (Some r) is e on = again (on r)
   where
     text : record_lines h ++ cond (eqb (length h) max_records) (bad_line (length h)) (record_line (length h) r ++ lines bs (r ∷ h) loose) ≡ record_lines (r ∷ h) ++ lines bs (r ∷ h) loose
     text = rw (ne_eqb (length h) max_records (λ z. absurd (omega arith))) (sym (append_assoc (record_lines h) (record_line (length h) r) (lines bs (r ∷ h) loose)))

@@ -8,8 +8,8 @@ use native.Mathlib.Omega.{arith}
 use lib.Dec.{eqb, leb, ltb}
 use lib.ListN.{length}
 use borrow.Author.Tests.{eqb-true, eqb-false, leb-false, leb-true, ltb-true, ltb-false}
-use Rattle.timing.specs.declared.kinds.MaybeKind.{MaybeKind}
-use Rattle.timing.specs.declared.kinds.MaybeKind.TheVariants.{Kind, NoKind}
+use Rattle.std.specs.Prelude.{Option, Some, None}
+use Rattle.timing.specs.declared.kinds.CommandKind.{CommandKind}
 use Rattle.timing.specs.declared.rules.Command.{Command}
 use Rattle.timing.specs.Kinds.{kind_of}
 use Rattle.timing.specs.Banks.{wrong_bank}
@@ -228,22 +228,22 @@ numbered room count now (calls (open_session o)) j = plain_number (first_of (ope
 numbered room count closed (calls (offer kind rank bank t)) j = refl
 numbered room count (session st) (calls (offer kind rank bank t)) j = go (kind_of kind)
   where
-    go : (k : MaybeKind) → (reply_of (offer_case room count (session st) k rank bank t)).number
+    go : (k : Option CommandKind) → (reply_of (offer_case room count (session st) k rank bank t)).number
         ≡ first_of
         (kind_lines k
         (λ k.
         let c : Command = record { kind = k; rank = rank; bank = bank } in
         offer_lines st.settings.opening (floor st) (wrong_bank st c) (earliest st c) c t ++ room_lines room count))
-    go NoKind = refl
-    go (Kind k) = let c : Command = record { kind = k; rank = rank; bank = bank } in offered_number st.number st.settings (earliest st c) c t _
+    go None = refl
+    go (Some k) = let c : Command = record { kind = k; rank = rank; bank = bank } in offered_number st.number st.settings (earliest st c) c t _
 numbered room count closed (calls take_back) j = refl
 numbered room count (session st) (calls take_back) j = plain_number (first_of (depth_lines st.depth ++ room_lines room count)) (take_back_record st.number) (plain 0) refl
 numbered room count closed (asks_earliest kind rank bank) j = refl
 numbered room count (session st) (asks_earliest kind rank bank) j = go (kind_of kind)
   where
-    go : (k : MaybeKind) → (earliest_case (session st) k rank bank).number ≡ first_of (kind_lines k (λ k. place_lines st.settings.opening (record { kind = k; rank = rank; bank = bank })))
-    go NoKind = refl
-    go (Kind k) = asked_number st.settings (earliest st (record { kind = k; rank = rank; bank = bank })) _
+    go : (k : Option CommandKind) → (earliest_case (session st) k rank bank).number ≡ first_of (kind_lines k (λ k. place_lines st.settings.opening (record { kind = k; rank = rank; bank = bank })))
+    go None = refl
+    go (Some k) = asked_number st.settings (earliest st (record { kind = k; rank = rank; bank = bank })) _
 numbered room count closed asks_status j = refl
 numbered room count (session st) asks_status j = refl
 numbered room count now asks_stretch j = refl

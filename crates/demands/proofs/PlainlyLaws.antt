@@ -8,9 +8,9 @@ use native.Mathlib.Omega.{arith}
 use lib.Dec.{eqb, leb, ltb}
 use lib.ListN.{length}
 use borrow.Author.Tests.{eqb-true, eqb-false, leb-true, ltb-true}
+use Rattle.std.specs.Prelude.{Option, Some, None}
+use Rattle.timing.specs.declared.kinds.CommandKind.{CommandKind}
 use Rattle.timing.proofs.Truth.{and_true}
-use Rattle.timing.specs.declared.kinds.MaybeKind.{MaybeKind}
-use Rattle.timing.specs.declared.kinds.MaybeKind.TheVariants.{Kind, NoKind}
 use Rattle.timing.specs.declared.rules.Command.{Command}
 use Rattle.timing.specs.Kinds.{kind_of}
 use Rattle.timing.specs.Earliest.{Settings, Ask}
@@ -94,10 +94,10 @@ offer_fair room s kind rank bank t = go (is_closed s) (kind_of kind)
     own : List ℕ
     own = 1 ∷ 2 ∷ 3 ∷ 4 ∷ 5 ∷ 6 ∷ 12 ∷ 7 ∷ 9 ∷ 0 ∷ []
 
-    go : (z : Bool) (m : MaybeKind) → Fair own t (offer_in_case room s z m rank bank t)
+    go : (z : Bool) (m : Option CommandKind) → Fair own t (offer_in_case room s z m rank bank t)
     go true m = refuses own t 1 (Memᴰ.head refl) (eqb-false 1 0 refl)
-    go false NoKind = refuses own t 2 (Memᴰ.tail (Memᴰ.head refl)) (eqb-false 2 0 refl)
-    go false (Kind k) =
+    go false None = refuses own t 2 (Memᴰ.tail (Memᴰ.head refl)) (eqb-false 2 0 refl)
+    go false (Some k) =
         let c : Command = record { kind = k; rank = rank; bank = bank } in
         let ls = offer_lines s.terms.opening (after_of s.progress) (wrong_in s c) (early_in s c) c t ++ room_lines room s.progress.records in
         offered own s.terms.number (settings_by s.terms) (early_in s c) c t (first_of ls) (Memᴰ.tail (Memᴰ.tail (first_among ls)))
@@ -159,10 +159,10 @@ pub earliest_plain : (s : Session) (kind rank bank : ℕ) (reply : Reply) → To
 unfolding earliest_in
 earliest_plain s kind rank bank reply told = subst EarliestPlainly (sym told.exact) (go (is_closed s) (kind_of kind))
   where
-    go : (z : Bool) (m : MaybeKind) → EarliestPlainly (earliest_in_case s z m rank bank)
+    go : (z : Bool) (m : Option CommandKind) → EarliestPlainly (earliest_in_case s z m rank bank)
     go true m = record { own = Memᴰ.head refl; zeros = λ p. (refl, refl, refl) }
-    go false NoKind = record { own = Memᴰ.tail (Memᴰ.head refl); zeros = λ p. (refl, refl, refl) }
-    go false (Kind k) =
+    go false None = record { own = Memᴰ.tail (Memᴰ.head refl); zeros = λ p. (refl, refl, refl) }
+    go false (Some k) =
         let c : Command = record { kind = k; rank = rank; bank = bank } in
         let ls = place_lines s.terms.opening c in
         asked_plain (settings_by s.terms) (early_in s c) (first_of ls) (Memᴰ.tail (Memᴰ.tail (first_among ls)))

@@ -8,10 +8,11 @@ use lib.Dec.{T, leb, ltb}
 use lib.ListN.{length, take, drop, length-append, length-drop, take-append-drop}
 use lib.Seq.{take_at, take-add, drop-append-add, take-append-le, take_all, take-take, length-take-le}
 use borrow.Author.Tests.{leb-true, leb-false, le-ltb}
+use Rattle.std.specs.Prelude.{Option, Some, None}
 use Rattle.timing.proofs.Truth.{and_left, and_right, true_is}
 use Rattle.history.specs.Records.{Record, History, standing}
 use Rattle.history.specs.Answers.{max_records, fits, follows, fine, record_size}
-use Rattle.journal.specs.Bytes.{bytes_of, Sized, Held, holding, nothing}
+use Rattle.journal.specs.Bytes.{bytes_of, Sized}
 use Rattle.journal.specs.Restore.{written, put_at, pieces, whole_records, taken, too_long, restored, or_bad, replay, restore_of, history_of}
 use Rattle.journal.proofs.Codec.{bytes_size, read_written, written_read}
 use Rattle.journal.proofs.PieceLaws.{pieces_join}
@@ -76,13 +77,13 @@ unfolding replay
 replay_on [] qs h g e = ap (replay qs) (ap history_of e)
 replay_on (p ∷ ps) qs h g e = go (taken h p) (λ r. replay_on ps qs (r ∷ h) g) e
   where
-    go : (k : Held) → ((r : Record) → replay ps (r ∷ h) ≡ restored g → replay (ps ++ qs) (r ∷ h) ≡ replay qs g)
+    go : (k : Option Record) → ((r : Record) → replay ps (r ∷ h) ≡ restored g → replay (ps ++ qs) (r ∷ h) ≡ replay qs g)
         → or_bad (length h) k (λ r. replay ps (r ∷ h)) ≡ restored g → or_bad (length h) k (λ r. replay (ps ++ qs) (r ∷ h)) ≡ replay qs g
-    go nothing on e = absurd (let z : ◌≡◌ {A = ℕ} 0 1 = cc in omega arith)
-    go (holding r) on e = on r e
+    go None on e = absurd (let z : ◌≡◌ {A = ℕ} 0 1 = cc in omega arith)
+    go (Some r) on e = on r e
 
 -- what was written is taken
-taken_written : (h : History) (r : Record) → Sized r → fits (standing h) r ≡ true → follows (standing h) r ≡ true → taken h (bytes_of r) ≡ holding r
+taken_written : (h : History) (r : Record) → Sized r → fits (standing h) r ≡ true → follows (standing h) r ≡ true → taken h (bytes_of r) ≡ Some r
 taken_written h r sized f g = rw (read_written r sized, f, g)
 
 pub replay_written : (h : History) → AllSized h → T (fine h) → replay (pieces (length h) (written h)) [] ≡ restored h
@@ -137,11 +138,11 @@ replay_bytes (suc n) bytes g h e = go (taken g b) refl (λ r. replay_bytes n (dr
     parts : take (record_size * suc n) bytes ≡ b ++ take (record_size * n) (drop record_size bytes)
     parts = let more : record_size * suc n ≡ record_size + record_size * n = omega arith in ap (λ (k : ℕ). take k bytes) more ∙ take-add record_size (record_size * n) bytes
 
-    go : (k : Held) → taken g b ≡ k
+    go : (k : Option Record) → taken g b ≡ k
         → ((r : Record) → replay (pieces n (drop record_size bytes)) (r ∷ g) ≡ restored h → (length h ≡ length (r ∷ g) + n) × (written h ≡ written (r ∷ g) ++ take (record_size * n) (drop record_size bytes)))
         → or_bad (length g) k (λ r. replay (pieces n (drop record_size bytes)) (r ∷ g)) ≡ restored h → (length h ≡ length g + suc n) × (written h ≡ written g ++ take (record_size * suc n) bytes)
-    go nothing is on e = absurd (let z : ◌≡◌ {A = ℕ} 0 1 = cc in omega arith)
-    go (holding r) is on e =
+    go None is on e = absurd (let z : ◌≡◌ {A = ℕ} 0 1 = cc in omega arith)
+    go (Some r) is on e =
         let w = on r e in
         let own : b ≡ bytes_of r = written_read b r (taken_passes g b r is).0 in
         (omega (arith, w.0), w.1 ∙ append_assoc (written g) (bytes_of r) (take (record_size * n) (drop record_size bytes)) ∙ ap (λ (x : List ℕ). written g ++ (x ++ take (record_size * n) (drop record_size bytes))) (sym own) ∙ ap (λ (x : List ℕ). written g ++ x) (sym parts))

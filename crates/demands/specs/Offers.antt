@@ -1,8 +1,6 @@
 -- Demand 2: which line gives a move's number, and what the answer to an offer and to an earliest question means, in the words of the rule.
-use Rattle.std.specs.Prelude.{◌≡◌, ◌↔◌, Bool, true, false, List, [], ◌∷◌, ◌++◌, ℕ, ◌≤◌, ◌<◌}
+use Rattle.std.specs.Prelude.{◌≡◌, ◌↔◌, Bool, true, false, List, [], ◌∷◌, ◌++◌, ℕ, ◌≤◌, ◌<◌, Option, Some, None}
 use Rattle.timing.specs.declared.kinds.CommandKind.{CommandKind}
-use Rattle.timing.specs.declared.kinds.MaybeKind.{MaybeKind}
-use Rattle.timing.specs.declared.kinds.MaybeKind.TheVariants.{Kind, NoKind}
 use Rattle.timing.specs.declared.rules.Command.{Command}
 use Rattle.timing.specs.Kinds.{kind_of}
 use Rattle.timing.specs.Banks.{wrong_bank}
@@ -19,9 +17,9 @@ pub data Given : List Refusal → ℕ → Type 0 where
   a_later : {test : Bool} {m n : ℕ} {ls : List Refusal} → test ≡ false → Given ls n → Given ((test gives m) ∷ ls) n
 
 -- every move's lines in document 01's order, by the room, the count of records and what stands
-abbrev pub kind_lines : MaybeKind → (CommandKind → List Refusal) → List Refusal
-kind_lines NoKind more = (true gives 2) ∷ []
-kind_lines (Kind k) more = (false gives 2) ∷ more k
+abbrev pub kind_lines : Option CommandKind → (CommandKind → List Refusal) → List Refusal
+kind_lines None more = (true gives 2) ∷ []
+kind_lines (Some k) more = (false gives 2) ∷ more k
 
 abbrev pub opened_lines : Current → (Standing → List Refusal) → List Refusal
 opened_lines closed more = (true gives 1) ∷ []
@@ -45,7 +43,7 @@ lines_of room count now asks_stretch = []
 -- lines 1 to 6 don't hold for this command at this cycle
 pub record Ready (now : Current) (kind : ℕ) (c : Command) (t : ℕ) (st : Standing) : Type 0 where
   pub stands : now ≡ session st
-  pub known : kind_of kind ≡ Kind c.kind
+  pub known : kind_of kind ≡ Some c.kind
   pub placed : first_of (place_lines st.settings.opening c ++ stamp_lines t) ≡ 0
   pub after : floor st ≤ t
 
@@ -70,7 +68,7 @@ pub record OfferMeans (room count : ℕ) (st : Standing) (c : Command) (t : ℕ)
 -- lines 1 to 4 don't hold for this command
 pub record Askable (now : Current) (kind : ℕ) (c : Command) (st : Standing) : Type 0 where
   pub stands : now ≡ session st
-  pub known : kind_of kind ≡ Kind c.kind
+  pub known : kind_of kind ≡ Some c.kind
   pub placed : first_of (place_lines st.settings.opening c) ≡ 0
 
 -- with lines 1 to 4 passed: what an offer's 7 names

@@ -10,8 +10,8 @@ use native.Mathlib.Omega.{arith}
 use lib.Dec.{eqb, leb, ltb}
 use lib.ListN.{length, length-map}
 use borrow.Author.Tests.{eqb-true, lt-leb, le-ltb}
-use Rattle.timing.specs.declared.kinds.MaybeKind.{MaybeKind}
-use Rattle.timing.specs.declared.kinds.MaybeKind.TheVariants.{Kind, NoKind}
+use Rattle.std.specs.Prelude.{Option, Some, None}
+use Rattle.timing.specs.declared.kinds.CommandKind.{CommandKind}
 use Rattle.timing.specs.declared.rules.Command.{Command}
 use Rattle.timing.specs.Kinds.{kind_of}
 use Rattle.timing.specs.Earliest.{Settings, Stamped, Standing, Ask, floor, earliest}
@@ -124,10 +124,10 @@ module _ (r : ℕ) (good : good_ratio r ≡ true) (room room' : ℕ) (h : Histor
       by st e e' c false false false false true = record { number = refl; next = refl; all = a }
       by st e e' c false false false false false = record { number = refl; next = refl; all = a }
 
-      go : (k : Current) → RatioIs r k → (m : MaybeKind) → SameEnd r h (offer_case room (length h) k m rank bank t) (offer_case room' (length h) (one_of r k) m rank bank (t * r))
+      go : (k : Current) → RatioIs r k → (m : Option CommandKind) → SameEnd r h (offer_case room (length h) k m rank bank t) (offer_case room' (length h) (one_of r k) m rank bank (t * r))
       go closed e m = record { number = refl; next = refl; all = a }
-      go (session st) e NoKind = record { number = refl; next = refl; all = a }
-      go (session st) e (Kind k) =
+      go (session st) e None = record { number = refl; next = refl; all = a }
+      go (session st) e (Some k) =
           let c : Command = record { kind = k; rank = rank; bank = bank } in
           rw (low, le-ltb last_cycle (t * r) within, lt-leb room (length h) free, lt-leb room' (length h) free', ← floor_scaled r above st e c t, wrong_scaled r st c, ← early_scaled r above st e c t)
           (by st (earliest st c) (earliest (standing_one r st) c) c (leb st.settings.opening.ranks rank) (bad_bank k bank) (ltb t (floor st)) (wrong_bank st c) (ltb t (earliest st c).cycle))

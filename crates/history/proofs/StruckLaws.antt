@@ -7,8 +7,8 @@ use native.Mathlib.Omega.{arith}
 use lib.ListN.{drop}
 use native.Mathlib.Nat.{not-suc-le-zero}
 use borrow.Author.Tests.{eq-eqb, ne_eqb}
+use Rattle.std.specs.Prelude.{Some}
 use Rattle.timing.specs.declared.kinds.CommandKind.{CommandKind}
-use Rattle.timing.specs.declared.kinds.MaybeKind.TheVariants.{Kind}
 use Rattle.timing.specs.declared.rules.Command.{Command}
 use Rattle.timing.specs.Kinds.{kind_of}
 use Rattle.timing.specs.Earliest.{Settings, Stamped, Standing}
@@ -54,7 +54,7 @@ module _ (ps : List Answered) (h : History) (left : Left ps h) where
     left_on_lem : (n : ℕ) → n ≤ st.depth → since_opening (untaken n (unrefused ps)) ≡ behind n (session st)
     left_on_lem n l = subst (λ (s : Current). n ≤ depth_of s → since_opening (untaken n (unrefused ps)) ≡ behind n s) stands (left n) l
 
-    stamped : (kind rank bank t : ℕ) (k : CommandKind) → kind_of kind ≡ Kind k → (n : ℕ) → n ≤ min deepest (st.depth + 1)
+    stamped : (kind rank bank t : ℕ) (k : CommandKind) → kind_of kind ≡ Some k → (n : ℕ) → n ≤ min deepest (st.depth + 1)
         → since_opening (untaken n (offer kind rank bank t ∷ unrefused ps)) ≡ behind n (pushed (record { kind = k; rank = rank; bank = bank }) t (session st))
     unfolding untaken since_opening
     stamped kind rank bank t k e zero l = rw (code_of_kind kind k e) (ap (λ (cs : List Call). offer kind rank bank t ∷ cs) (left_on_lem 0 (omega arith)))

@@ -1,8 +1,9 @@
 // Standard input and files read so that a failed read is told from the end. A read that a signal interrupts is made again.
 #![tactic(auto)]
 
-ghost use Rattle.input.specs.Counts.{IsPrefixLen};
+ghost use Rattle.std.specs.Prelude.{MatchResult};
 ghost use Rattle.std.specs.Io.{ReadsAtMost};
+ghost use Rattle.input.specs.Counts.{IsPrefixLen};
 
 use std::fs::File;
 use std::io::{Error, ErrorKind, Read, Result};
@@ -10,94 +11,59 @@ use std::os::unix::fs::FileExt;
 
 pub mod says;
 
-// The bytes that came, none at the end of the input. A read that failed moved none, or `read_full` keeps those that came before it;
-// `failed` has the reason.
+// A read that failed behind bytes that came: they stand at the front of the buffer.
 #[derive(Clone, Copy)]
-pub struct Got {
+pub struct Broken {
     pub count: usize,
-    pub failed: Option<Error>,
+    pub reason: Error,
 }
 
-fn is_interrupted(got: &Result<usize>) -> bool {
-    match got {
-        Ok(_) => false,
-        Err(error) => error.kind() == ErrorKind::Interrupted,
-    }
-}
-
-// A file's bytes from a place on; below 0: a stream where it stands.
+// A file's bytes from a place on. The file's own place stays where it is.
 #[derive(Drop)]
-struct Place<'a> {
+pub struct Reader<'a> {
     file: &'a File,
-    place: i64,
+    place: u64,
 }
 
-// Each read is made at the same place, and moves none.
-impl Read for Place<'_> {
-    fn read(&mut self, buf: &mut [u8]) -> Result<usize> {
-        let mut file = self.file;
-        if self.place < 0 {
-            return file.read(buf);
-        }
-        file.read_at(buf, self.place as u64)
+impl<'a> Reader<'a> {
+    pub fn new(file: &'a File) -> Reader<'a> {
+        Reader { file, place: 0 }
     }
 }
 
-fn read_again<R: Read>(stream: &mut R, buf: &mut [u8]) -> Result<usize>
+impl Read for Reader<'_> {
+    fn read(&mut self, buf: &mut [u8]) -> Result<usize> {
+        let count = self.file.read_at(buf, self.place)?;
+        self.place = self.place.wrapping_add(count as u64);
+        Ok(count)
+    }
+}
+
+// One read of what is there: no byte at the end of the input.
+pub fn read_some<R: Read>(stream: &mut R, buf: &mut [u8]) -> Result<usize>
     ensures { ReadsAtMost result buf.new }
 {
     // A proved loop has to end: a count that no run uses up.
-    let mut tries = u64::MAX;
-    while tries > 0 {
-        let got = stream.read(buf);
-        if !is_interrupted(&got) {
-            return got;
+    for _ in 0..u64::MAX {
+        match stream.read(buf) {
+            Err(error) if error.kind() == ErrorKind::Interrupted => {}
+            got => return got,
         }
-        tries -= 1;
     }
     Err(Error::from(ErrorKind::Interrupted))
 }
 
-// One read of a file's bytes from a place on; below 0: of a stream where it stands.
-pub fn read_at(file: &File, buf: &mut [u8], place: i64) -> Got
-    ensures { IsPrefixLen result.count buf.new }
-{
-    read_some(&mut Place { file, place }, buf)
-}
-
-// One read of what is there.
-pub fn read_some<R: Read>(stream: &mut R, buf: &mut [u8]) -> Got
-    ensures { IsPrefixLen result.count buf.new }
-{
-    match read_again(stream, buf) {
-        Ok(count) => Got {
-            count,
-            failed: None,
-        },
-        Err(error) => Got {
-            count: 0,
-            failed: Some(error),
-        },
-    }
-}
-
 // Reads until the buffer is full, the input ends or a read fails.
-pub fn read_full<R: Read>(stream: &mut R, buf: &mut [u8]) -> Got
-    ensures { IsPrefixLen result.count buf.new }
+pub fn read_full<R: Read>(stream: &mut R, buf: &mut [u8]) -> std::result::Result<usize, Broken>
+    ensures { MatchResult result (λ count. IsPrefixLen count buf.new) (λ broken. IsPrefixLen broken.count buf.new) }
 {
-    let mut at = 0;
-    while at < buf.len() {
-        let got = read_some(stream, &mut buf[at..]);
-        if got.count == 0 {
-            return Got {
-                count: at,
-                failed: got.failed,
-            };
+    let mut count = 0;
+    while count < buf.len() {
+        match read_some(stream, &mut buf[count..]) {
+            Ok(0) => break,
+            Ok(more) => count += more,
+            Err(reason) => return Err(Broken { count, reason }),
         }
-        at += got.count;
     }
-    Got {
-        count: at,
-        failed: None,
-    }
+    Ok(count)
 }

@@ -3,4 +3,6 @@
 
 pub mod answers;
 pub mod judge;
+pub mod refusals;
+pub mod settings;
 pub mod take;

@@ -1,10 +1,6 @@
 // What a person reads who lists a journal.
-use input::says;
+use input::says::say;
 use std::io::{Stderr, Stdout};
-
-fn say(mut out: Stdout, line: &[u8]) {
-    let _ = says::write_all(&mut out, line);
-}
 
 pub fn print(out: Stdout) {
     say(
@@ -35,7 +31,7 @@ pub fn print(out: Stdout) {
 }
 
 pub fn expected(errors: Stderr) {
-    says::say(
+    say(
         errors,
         b"list: expected no argument, or --help; the journal comes on standard input: list < FILE\n",
     );

@@ -1,12 +1,9 @@
 // Standard input to standard output: the listing of a journal.
 #![tactic(auto)]
 
-ghost use Rattle.std.specs.Prelude.{◌≡◌, length};
-
+use input::read_full;
 use input::says::{fail, write_all};
-use input::{Got, read_full};
 use listing::records::list_part;
-use requests::words::same;
 use session::state::Session;
 use std::env::FillError;
 use std::io::{Stderr, Stdin, Stdout};
@@ -14,76 +11,55 @@ use std::rt::Env;
 
 mod help;
 
+// The bytes of a full read.
+const PART: usize = 65536;
+
 // Room for the lines of a full read, and for the end line.
-fn lines_buffer() -> [u8; 65600]
-    ensures { 65600 ≡ length result }
-{
-    [0; 65600]
-}
+const LINES: usize = 65600;
 
-// A read that is not full is the last, unless it failed: then the journal may go on, and no end is written.
-fn is_last(got: Got) -> bool {
-    if got.failed.is_some() {
-        return false;
-    }
-    got.count < 65536
-}
+// Record 16,777,216 ends the listing, so that no run takes more parts.
+const MOST_PARTS: usize = 16385;
 
-fn complain(errors: Stderr, got: Got) {
-    if let Some(reason) = got.failed {
-        fail(
-            errors,
-            b"list: standard input can't be read, so the listing breaks off, with no line 'end'. Hand in a journal's file, no folder, on a sound disk: list < FILE",
-            reason,
-        );
-    }
-}
-
-fn is_written(mut out: Stdout, errors: Stderr, lines: &[u8]) -> bool {
-    match write_all(&mut out, lines) {
-        Ok(()) => true,
-        Err(reason) => {
+fn list_all(mut stdin: Stdin, mut lines: Stdout, errors: Stderr) {
+    let mut input = [0u8; PART];
+    let mut out = [0u8; LINES];
+    let mut session = Session::fresh();
+    for _ in 0..MOST_PARTS {
+        let read = read_full(&mut stdin, &mut input);
+        if let Err(broken) = read {
+            fail(
+                errors,
+                b"list: standard input can't be read, so the listing breaks off, with no line 'end'. Hand in a journal's file, no folder, on a sound disk: list < FILE",
+                broken.reason,
+            );
+        }
+        // A read that is not full is the last, unless it failed: then the journal may go on, and no end is written.
+        let (count, last) = match read {
+            Ok(count) => (count, count < PART),
+            Err(broken) => (broken.count, false),
+        };
+        let listed = list_part(session, &input[..count], last, &mut out);
+        if let Err(reason) = write_all(&mut lines, &out[..listed.written]) {
             fail(
                 errors,
                 b"list: the listing can't be written, so it breaks off. See that standard output has room",
                 reason,
             );
-            false
-        }
-    }
-}
-
-// Record 16,777,216 ends the listing, so that no run takes more turns.
-fn list_all(mut stdin: Stdin, lines: Stdout, errors: Stderr) {
-    let mut input = [0u8; 65536];
-    let mut out = lines_buffer();
-    let mut session = Session::fresh();
-    let mut turns: usize = 16385;
-    while 0 < turns {
-        let got = read_full(&mut stdin, &mut input);
-        complain(errors, got);
-        let n = got.count;
-        let listed = list_part(session, &input[..n], is_last(got), &mut out);
-        let written = listed.written;
-        if !is_written(lines, errors, &out[..written]) {
             return;
         }
-        if got.failed.is_some() || listed.stopped {
+        if read.is_err() || listed.stopped {
             return;
         }
-        let next = listed.session;
-        session = next;
-        turns -= 1;
+        session = listed.session;
     }
 }
 
 // One argument: the page is asked for, or none was expected.
 fn explain(out: Stdout, errors: Stderr, word: &[u8]) {
-    if same(word, b"--help") {
-        help::print(out);
-        return;
+    match word {
+        b"--help" => help::print(out),
+        _ => help::expected(errors),
     }
-    help::expected(errors);
 }
 
 fn main(rt: HostRuntime) {

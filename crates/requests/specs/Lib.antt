@@ -1,4 +1,3 @@
-pub mod Places
 pub mod Words
 pub mod Forms
 pub mod Requests

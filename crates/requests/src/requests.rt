@@ -1,171 +1,119 @@
-// What a line asks: a row of the table, and the numbers that its words stand for.
-ghost use Rattle.std.specs.Prelude.{◌≡◌, ◌≤◌, length, drop};
+// What a line asks: a request, and the numbers that its words stand for.
+ghost use Rattle.std.specs.Prelude.{◌≡◌, ◌≤◌, [], length, drop};
+ghost use Rattle.std.specs.Option.{option_map};
+ghost use Rattle.std.specs.List.{slice_get};
 ghost use Rattle.requests.specs.Words.{words};
-ghost use Rattle.requests.specs.Forms.{no_form, no_line};
-ghost use Rattle.requests.specs.Requests.{within, number_at, read_from, IsRead, named, Fills, asked_by, asked, Asks};
+ghost use Rattle.requests.specs.Requests.{number_at, read_from, kind_number, named, asked_by, asked, Asks};
 
-use crate::forms::{Form, Place, ROWS, WORDS, form_at, is_whole, place_at};
-use crate::words::{Number, index_of, next_word, number_of};
+use crate::forms::{Form, Place, Request};
+use crate::words::{is_blank, number_of};
 
-// A row of the table; its numbers stand at the front of the array that was lent.
+// The numbers stand in the array that was lent.
 #[derive(Clone, Copy)]
-pub struct Asked {
-    pub row: usize,
-    pub count: usize,
+pub struct Asked<'a> {
+    pub request: Request,
+    pub numbers: &'a [u64],
 }
-
-// How many words were read as numbers, or that one was none.
-#[derive(Drop)]
-enum Count {
-    Numbers(usize),
-    Unread,
-}
-
-pub const NO_FORM: usize = 0;
 
 const MAX_LINE: usize = 4096;
 
-const RETURN: u8 = 13;
+// The kinds' names, in the order of their code numbers from 1 on.
+const KINDS: [&[u8]; 7] = [b"ACT", b"RD", b"WR", b"PREPB", b"PREAB", b"REFAB", b"REFPB"];
 
-const COMMENT: u8 = 35;
-
-// The kinds' names, in the order of their code numbers 1 to 7.
-const KINDS: [u8; 33] = *b"ACT RD WR PREPB PREAB REFAB REFPB";
-
-fn within(number: Number, most: u64) -> Number
-    ensures { result ≡ within most number }
+fn kind_number(word: &[u8]) -> Option<u64>
+    ensures { result ≡ kind_number word.now }
 {
-    let Number::Value(value) = number else {
-        return number;
-    };
-    if most < value {
-        return Number::NoNumber;
-    }
-    number
+    let place = KINDS.iter().position(|name| *name == word)?;
+    Some(place as u64 + 1)
 }
 
 // A word at its place: a number up to the most, or a kind's name.
-fn number_at(word: &[u8], place: Place) -> Number
+#[tactic(auto, unfolding(crate::specs::Requests::number_at))]
+fn number_at(word: &[u8], place: Place) -> Option<u64>
     ensures { result ≡ number_at place word.now }
 {
-    let number = within(number_of(word), place.most);
-    if !place.named {
-        return number;
+    match place {
+        Place::Kind => kind_number(word).or(number_of(word)),
+        Place::UpTo(most) => number_of(word).filter(|number| *number <= most),
     }
-    let kind = index_of(&KINDS, word);
-    if 7 <= kind {
-        return number;
-    }
-    Number::Value(kind as u64 + 1)
 }
 
-// The words from a place to the line's end, each read at its place of the form.
-fn read_numbers(line: &[u8], from: usize, form: Form, numbers: &mut [u64]) -> Count
-    requires { (length line.now ≤ 4096) × (length numbers.old ≡ 4096) }
-    ensures { IsRead (read_from form 0 (words (drop from line.now))) result numbers.new }
+fn first_word(line: &[u8]) -> Option<&[u8]>
+    ensures { option_map (λ word. word.now) result ≡ slice_get (words line.now) 0 }
 {
-    let mut at = from;
-    let mut word = next_word(line, at);
-    let mut i = 0;
-    while word.start < word.end {
-        let start = word.start;
-        let end = word.end;
-        let number = number_at(&line[start..end], place_at(form, i));
-        let Number::Value(value) = number else {
-            return Count::Unread;
-        };
-        numbers[i] = value;
-        at = end;
-        let next = next_word(line, at);
-        word = next;
-        i += 1;
-    }
-    Count::Numbers(i)
+    line.split(|byte| is_blank(*byte))
+        .find(|word| !word.is_empty())
 }
 
-fn nothing() -> Asked
-    ensures { result ≡ record { row = no_line; count = 0 } }
+// The words behind the first, each read at its place of the form, if each is a number there.
+fn read_numbers<'a>(line: &[u8], form: Form, numbers: &'a mut [u64; 4096]) -> Option<&'a [u64]>
+    requires { length line.now ≤ 4096 }
+    ensures { option_map (λ read. read.now) result ≡ read_from form 0 (drop 1 (words line.now)) }
+{
+    let words = line
+        .split(|byte| is_blank(*byte))
+        .filter(|word| !word.is_empty());
+    let mut count = 0;
+    for word in words.skip(1) {
+        numbers[count] = number_at(word, form.place_at(count))?;
+        count += 1;
+    }
+    Some(&numbers[..count])
+}
+
+fn without_numbers<'a>(request: Request) -> Asked<'a>
+    ensures { Asks (record { request = request; numbers = [] }) result }
 {
     Asked {
-        row: ROWS,
-        count: 0,
+        request,
+        numbers: &[],
     }
 }
 
-fn malformed() -> Asked
-    ensures { result ≡ record { row = no_form; count = 0 } }
-{
-    Asked {
-        row: NO_FORM,
-        count: 0,
-    }
-}
-
-// The row of a first word; in a file a row may be malformed.
-fn named(word: &[u8], in_file: bool) -> usize
+// The request of a first word, if it stands there: in a file some do not.
+fn named(word: &[u8], in_file: bool) -> Request
     ensures { result ≡ named in_file word.now }
 {
-    let row = index_of(&WORDS, word);
-    if ROWS <= row {
-        return NO_FORM;
-    }
-    if !in_file {
-        return row;
-    }
-    if form_at(row).7 {
-        return row;
-    }
-    NO_FORM
+    let mut requests = Request::NAMED.iter().copied();
+    let request = requests.find(|request| request.word() == word
+        && (!in_file || request.form().in_file));
+    request.unwrap_or(Request::Malformed)
 }
 
-fn filled(row: usize, form: Form, count: Count) -> Asked
-    ensures { Fills row form count result }
+fn parse<'a>(line: &[u8], in_file: bool, numbers: &'a mut [u64; 4096]) -> Asked<'a>
+    requires { length line.now ≤ 4096 }
+    ensures { Asks (asked_by in_file (words line.now)) result }
 {
-    let Count::Numbers(n) = count else {
-        return malformed();
+    let Some(word) = first_word(line) else {
+        return without_numbers(Request::Nothing);
     };
-    if !is_whole(form, n) {
-        return malformed();
+    if word.starts_with(b"#") {
+        return without_numbers(Request::Nothing);
     }
-    Asked { row, count: n }
-}
-
-fn parse(line: &[u8], in_file: bool, numbers: &mut [u64]) -> Asked
-    requires { (length line.now ≤ 4096) × (length numbers.old ≡ 4096) }
-    ensures { Asks (asked_by in_file (words line.now)) result numbers.new }
-{
-    let word = next_word(line, 0);
-    let start = word.start;
-    let end = word.end;
-    if end <= start {
-        return nothing();
+    let request = named(word, in_file);
+    let form = request.form();
+    match read_numbers(line, form, numbers) {
+        Some(numbers) if form.is_whole(numbers.len()) => Asked { request, numbers },
+        _ => without_numbers(Request::Malformed),
     }
-    if line[start] == COMMENT {
-        return nothing();
-    }
-    let row = named(&line[start..end], in_file);
-    let form = form_at(row);
-    let count = read_numbers(line, end, form, numbers);
-    filled(row, form, count)
 }
 
 // A line as it came. What no newline ended was cut short. A carriage return counts for a line's length, and is ignored at its end. Where
 // the journal is a file, nothing may damage it or wind it back.
-pub fn parse_line(line: &[u8], ended: bool, in_file: bool, numbers: &mut [u64; 4096]) -> Asked
-    ensures { Asks (asked line.now ended in_file) result numbers.new }
+pub fn parse_line<'a>(
+    line: &[u8],
+    ended: bool,
+    in_file: bool,
+    numbers: &'a mut [u64; 4096],
+) -> Asked<'a>
+    ensures { Asks (asked line.now ended in_file) result }
 {
-    if line.len() == 0 {
-        return nothing();
+    if line.is_empty() {
+        return without_numbers(Request::Nothing);
     }
-    if !ended {
-        return malformed();
+    if !ended || MAX_LINE < line.len() {
+        return without_numbers(Request::Malformed);
     }
-    if MAX_LINE < line.len() {
-        return malformed();
-    }
-    let last = line.len() - 1;
-    if line[last] == RETURN {
-        return parse(&line[..last], in_file, numbers);
-    }
+    let line = line.strip_suffix(b"\r").unwrap_or(line);
     parse(line, in_file, numbers)
 }

@@ -14,6 +14,7 @@ use Rattle.timing.specs.declared.rules.Opening.{Opening}
 use Rattle.timing.specs.Rules.{class_for, rules, covers, matching, rule_gap}
 use Rattle.timing.proofs.TableLaws.{silent, silent_below}
 use Rattle.timing.proofs.Truth.{and_left, and_right}
+use Rattle.session.specs.declared.stamps.Stamp.{Stamp}
 use Rattle.scan.specs.Rows.{max_to, bank_ask, row_ask, rank_ask}
 use Rattle.scan.proofs.RowLaws.{one_whole, none_whole}
 
@@ -52,7 +53,7 @@ refpb_gaps : T (lonely Prepb Refpb) × T (mute Act Refpb) × T (mute Rd Refpb) �
 unfolding mute lonely silent silent_below rule_gap matching covers rules
 refpb_gaps = (tt, tt, tt, tt, tt)
 
-module _ (steps last : List ℕ) (o : Opening) (second : CommandKind) (spot : ℕ) (none : get_or steps 0 0 ≡ 0) (bank : spot % 16 < 16) where
+module _ (steps : List ℕ) (last : List Stamp) (o : Opening) (second : CommandKind) (spot : ℕ) (none : get_or steps 0 0 ≡ 0) (bank : spot % 16 < 16) where
   abbrev row : CommandKind → ℕ
   row = row_ask steps last o second spot
 

@@ -4,4 +4,3 @@ pub mod RowLaws
 pub mod KindRows
 pub mod ScanLaws
 pub mod RankLaws
-pub mod LentLaws

@@ -15,6 +15,7 @@ use Rattle.timing.specs.Kinds.{all_banks}
 use Rattle.timing.specs.Rules.{group_of, nearness, class_for}
 use Rattle.timing.proofs.TableLaws.{silent, silent_gap}
 use Rattle.timing.proofs.Truth.{and_left, and_right, true_is}
+use Rattle.session.specs.declared.stamps.Stamp.{Stamp}
 use Rattle.scan.specs.Scan.{ask_of}
 use Rattle.scan.specs.Rows.{kept_at, max_to, step_from, row_of, bank_ask, row_ask, pair_kept, four_kept, far_kept, mate_of, pair_beside, beside_of, near_ask}
 use Rattle.scan.proofs.MaxLaws.{max_above, max_most}
@@ -92,7 +93,7 @@ module _ (o : Opening) (b : ℕ) where
       go false z = omega (arith, n, z)
 
 -- THE NEWEST of two, of four, and of the fours that a bank is not of
-module _ (last : List ℕ) (row : ℕ) where
+module _ (last : List Stamp) (row : ℕ) where
   abbrev kept_in : ℕ → ℕ
   kept_in i = kept_at last (row + i)
 
@@ -158,7 +159,7 @@ module _ (last : List ℕ) (row : ℕ) where
         at : (k : ℕ) → 0 < k → k < 4 → ask_of (four_kept last row ((own + k) % 4)) s ≤ w
         at k some few = four_most ((own + k) % 4) (λ i e. all i (omega (arith, e)) (λ z. omega (arith, e, z)))
 
-module _ (steps last : List ℕ) (o : Opening) (second : CommandKind) (spot : ℕ) (first : CommandKind) where
+module _ (steps : List ℕ) (last : List Stamp) (o : Opening) (second : CommandKind) (spot : ℕ) (first : CommandKind) where
   abbrev bank : ℕ
   bank = spot % 16
 

@@ -4,3 +4,5 @@
 pub mod asks;
 pub mod earliest;
 pub mod rows;
+pub mod steps;
+pub mod timings;

@@ -2,19 +2,20 @@
 // numbers, of which the compiler makes no branch.
 ghost use Rattle.std.specs.Prelude.{◌≡◌, cond, ◌*◌, ◌^◌, ◌≤◌, ◌<◌, eqb};
 ghost use Rattle.timing.specs.Banks.{banks};
-ghost use Rattle.session.specs.State.{slots, first_bit, banks_after};
+ghost use Rattle.session.specs.State.{first_bit, banks_after};
 ghost use Rattle.session.specs.Banks.{looked_at, wanted, bit_for, wrong_by};
 
+use crate::slots::Slot;
 use crate::state::RANK_SLOTS;
 use timing::editions::BANK_STATES;
 use timing::kinds::CommandKind;
 use timing::rules::{Command, Opening, all_banks};
 
 // The first bit of a slot's rank.
-fn first_bit(slot: usize) -> u32
-    ensures { (result ≡ first_bit slot) × (result ≤ 16) }
+fn first_bit(slot: Slot) -> u32
+    ensures { (result ≡ first_bit slot.place) × (result ≤ 16) }
 {
-    if slot < RANK_SLOTS {
+    if slot.place < RANK_SLOTS {
         return 0;
     }
     16
@@ -45,13 +46,12 @@ fn closing_bits(place: usize, bit: u32, first: u32) -> u32
 }
 
 // Which banks are open behind the command of a slot.
-pub fn banks_after(up: u32, slot: usize) -> u32
-    requires { slot < slots }
-    ensures { result ≡ banks_after up slot }
+pub fn banks_after(up: u32, slot: Slot) -> u32
+    ensures { result ≡ banks_after up slot.place }
 {
     let first = first_bit(slot);
-    let bit = first + (slot % 16) as u32;
-    let place = slot / 16 % 7;
+    let bit = first + (slot.place % 16) as u32;
+    let place = slot.place / 16 % 7;
     let closing = closing_bits(place, bit, first);
     let opening = opening_bits(place, bit);
     (up - (up & closing)) | opening
@@ -61,28 +61,16 @@ fn looked_at(kind: CommandKind) -> u32
     ensures { result ≡ looked_at kind }
 {
     match kind {
-        CommandKind::Act => 1,
-        CommandKind::Rd => 1,
-        CommandKind::Wr => 1,
-        CommandKind::Prepb => 0,
-        CommandKind::Preab => 0,
+        CommandKind::Act | CommandKind::Rd | CommandKind::Wr | CommandKind::Refpb => 1,
+        CommandKind::Prepb | CommandKind::Preab => 0,
         CommandKind::Refab => 65535,
-        CommandKind::Refpb => 1,
     }
 }
 
 fn wanted(kind: CommandKind) -> u32
     ensures { result ≡ wanted kind }
 {
-    match kind {
-        CommandKind::Act => 0,
-        CommandKind::Rd => 1,
-        CommandKind::Wr => 1,
-        CommandKind::Prepb => 0,
-        CommandKind::Preab => 0,
-        CommandKind::Refab => 0,
-        CommandKind::Refpb => 0,
-    }
+    u32::from(matches!(kind, CommandKind::Rd | CommandKind::Wr))
 }
 
 fn bit_for(kind: CommandKind, rank: u8, bank: u8) -> u32

@@ -3,5 +3,6 @@
 
 pub mod banks;
 pub mod changes;
+pub mod slots;
 pub mod stamps;
 pub mod state;

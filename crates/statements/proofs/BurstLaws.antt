@@ -2,14 +2,14 @@
 use mathlib.Core.Path.{◌≡◌, refl, sym, ◌∙◌, ap, subst}
 use mathlib.Core.Logic.{◌≢◌}
 use mathlib.Core.Bool.{Bool, true, false, cond}
-use mathlib.Core.List.{List, [], ◌∷◌, ◌++◌, map}
-use Prim.Native.Nat.{ℕ, ◌+◌, ◌-◌, ◌*◌, ◌/◌, ◌<◌, ◌≤◌}
+use mathlib.Core.List.{List, [], ◌∷◌, ◌++◌}
+use Prim.Native.Nat.{ℕ, ◌+◌, ◌*◌}
 use native.Mathlib.Omega.{arith}
 use lib.Dec.{eqb}
 use lib.ListN.{length}
 use borrow.Author.Tests.{eqb-false}
-use Rattle.timing.specs.declared.kinds.MaybeKind.{MaybeKind}
-use Rattle.timing.specs.declared.kinds.MaybeKind.TheVariants.{Kind, NoKind}
+use Rattle.std.specs.Prelude.{Option, Some, None}
+use Rattle.timing.specs.declared.kinds.CommandKind.{CommandKind}
 use Rattle.timing.specs.declared.rules.Command.{Command}
 use Rattle.timing.specs.Kinds.{kind_of}
 use Rattle.timing.specs.Earliest.{Ask, Settings}
@@ -18,16 +18,14 @@ use Rattle.history.specs.Answers.{record_size, room_of, first_of, offer_lines, r
 use Rattle.history.specs.Struck.{offer}
 use Rattle.session.specs.declared.state.Session.{Session}
 use Rattle.journal.specs.declared.records.Offer.{Offer}
-use Rattle.journal.specs.Bytes.{bytes_of, offer_from}
-use Rattle.journal.specs.Restore.{put_at, bytes_after, pieces, offers_from}
-use Rattle.journal.proofs.PieceLaws.{from, piece}
+use Rattle.journal.specs.Bytes.{bytes_of}
+use Rattle.journal.specs.Restore.{put_at, bytes_after}
 use Rattle.judging.specs.Judged.{after_of, early_in, wrong_in, settings_by, is_closed, taken_state}
 use Rattle.statements.specs.Exact.{offer_in_case, offer_in, state_after, Left}
 use Rattle.statements.specs.Rep.{Rep}
 use Rattle.statements.specs.Bursts.{Over, over, Burst, ended, goes_on, in_a_row, verdict_in, after_in, burst_in, after_on, burst_on, Means, Bursts, OffersOne, InARow, none_left, one_refused, one_accepted}
 use Rattle.statements.proofs.CalledLaws.{called_left}
 use Rattle.statements.proofs.MeansLaws.{offer_means}
-use Rattle.statements.proofs.RestoreLaws.{pieces_on}
 
 -- the number of a refusal is not 0; an accepted offer is answered with its own cycle
 abbrev Numbered : ℕ → Verdict → Type 0
@@ -47,10 +45,10 @@ offer_numbered : (room : ℕ) (s : Session) (kind rank bank t : ℕ) → Numbere
 unfolding offer_in
 offer_numbered room s kind rank bank t = go (is_closed s) (kind_of kind)
   where
-    go : (closed : Bool) (k : MaybeKind) → Numbered t (offer_in_case room s closed k rank bank t)
+    go : (closed : Bool) (k : Option CommandKind) → Numbered t (offer_in_case room s closed k rank bank t)
     go true k = eqb-false 1 0 refl
-    go false NoKind = eqb-false 2 0 refl
-    go false (Kind k) =
+    go false None = eqb-false 2 0 refl
+    go false (Some k) =
         let c : Command = record { kind = k; rank = rank; bank = bank } in
         reply_numbered s.terms.number (settings_by s.terms) (early_in s c) c t (first_of (offer_lines s.terms.opening (after_of s.progress) (wrong_in s c) (early_in s c) c t ++ room_lines room s.progress.records))
 
@@ -203,27 +201,17 @@ module _ (s₀ : Session) (lent : List ℕ) (os : List Offer) where
           go (refused q) e z left = (bursting_refused r (e ∙ ap refused (sym left.answer)), left.written)
           go (accepted q x) e z left = absurd (some (number (left.answer ∙ z)))
 
+      -- with what it leaves
+      pub bursting_ended : {r : Reply} {next : Session} {after : List ℕ} → OffersOne s j o r next after → r.number ≢ 0 → ended n r (over next after) ≡ burst_in (over s₀ lent) os
+      bursting_ended {r} {next} {after} p some = go (here s j o) refl (here_numbered s j o) p.exact
+        where
+          go : (v : Verdict) → here s j o ≡ v → Numbered o.cycle.0 v → Left v s j r next after → ended n r (over next after) ≡ burst_in (over s₀ lent) os
+          go (refused q) e z left = rw (left.state, left.written) (bursting_refused r (e ∙ ap refused (sym left.answer)))
+          go (accepted q x) e z left = absurd (some (number (left.answer ∙ z)))
+
       pub bursting_offered : {r : Reply} {next : Session} {after : List ℕ} → OffersOne s j o r next after → r.number ≡ 0 → Bursting next after (n + 1) rest
       bursting_offered {r} {next} {after} p none = go (here s j o) refl (here_numbered s j o) p.exact
         where
           go : (v : Verdict) → here s j o ≡ v → Numbered o.cycle.0 v → Left v s j r next after → Bursting next after (n + 1) rest
           go (refused q) e z left = absurd (z (sym (number left.answer) ∙ none))
           go (accepted q x) e z left = bursting_accepted q x next after e left.state left.written
-
--- ---- the commands that lie in pieces of 64 bytes, from the i-th on
-
-module _ (commands : List ℕ) where
-  pub left_from : ℕ → List Offer
-  left_from i = map offer_from (pieces (length commands / record_size - i) (from i commands))
-
-  pub left_all : left_from 0 ≡ offers_from commands
-  unfolding left_from offers_from
-  left_all = let all : length commands / record_size - 0 ≡ length commands / record_size = omega arith in rw all
-
-  pub left_none : (i : ℕ) → length commands / record_size ≤ i → left_from i ≡ []
-  unfolding left_from pieces
-  left_none i l = let none : length commands / record_size - i ≡ 0 = omega arith in rw none
-
-  pub left_one : (i : ℕ) → i < length commands / record_size → left_from i ≡ offer_from (piece i commands) ∷ left_from (i + 1)
-  unfolding left_from
-  left_one i l = rw (pieces_on commands (length commands / record_size) i l)

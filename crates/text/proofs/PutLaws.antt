@@ -5,7 +5,7 @@ use mathlib.Core.List.{List, ◌++◌}
 use Prim.Native.Nat.{ℕ, ◌+◌, ◌≤◌, ◌<◌, min}
 use native.Mathlib.Omega.{arith}
 use lib.Dec.{leb}
-use lib.ListN.{length, take, drop, length-take}
+use lib.ListN.{length, take, drop}
 use lib.Seq.{take_all, paste}
 use borrow.Author.Tests.{leb-true, leb-false, le-leb, lt-leb}
 use Rattle.text.specs.Lines.{Put}
@@ -28,7 +28,3 @@ take_min l n most len size e = go (leb n most) refl
     go : (t : Bool) → leb n most ≡ t → take n l ≡ take len l
     go true f = let same : n ≡ len = omega (arith, leb-true n most f) in rw same
     go false f = take_all n l (omega (arith, leb-false n most f)) ∙ sym (take_all len l (omega (arith, leb-false n most f)))
-
--- a line shows at most the 512 bytes that it has
-pub shown_first : (bytes : List ℕ) (n len : ℕ) → length bytes ≡ 512 → len ≡ min n 512 → (take n bytes ≡ take len bytes) × (length (take n bytes) ≡ len)
-shown_first bytes n len size e = (take_min bytes n 512 len size e, simp length-take (omega arith))

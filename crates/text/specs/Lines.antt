@@ -1,4 +1,4 @@
--- A line of text under way: at most 512 bytes, of which the first `len` are written. A word and 22 numbers fit.
+-- A line of text under way: at most 512 bytes. A word and 22 numbers fit.
 use Rattle.std.specs.Prelude.{◌≡◌, cond, List, ◌++◌, ℕ, ◌+◌, ◌≤◌, leb, length, take, drop}
 use Rattle.text.specs.declared.lines.Line.{Line}
 
@@ -6,16 +6,15 @@ abbrev pub line_size : ℕ
 line_size = 512
 
 abbrev pub shown : Line → List ℕ
-shown l = take l.len l.bytes
+shown l = l.bytes.items
 
 -- the bytes xs stand behind what was there, if they fit
 abbrev pub Appended : Line → List ℕ → Line → Type 0
-Appended l xs r = l.len + length xs ≤ line_size → (r.len ≡ l.len + length xs) × (shown r ≡ shown l ++ xs)
+Appended l xs r = length (shown l) + length xs ≤ line_size → shown r ≡ shown l ++ xs
 
 -- the line is these bytes
-pub record IsLine (xs : List ℕ) (r : Line) : Type 0 where
-  pub shows : shown r ≡ xs
-  pub size : r.len ≡ length xs
+abbrev pub IsLine : List ℕ → Line → Type 0
+IsLine xs r = shown r ≡ xs
 
 -- bytes put at a place of a buffer, and the place behind them; where there is no room for all of them, nothing
 pub record Put (xs : List ℕ) (at : ℕ) (before after : List ℕ) (behind : ℕ) : Type 0 where

@@ -1,112 +1,68 @@
-// A line under way. What does not fit is left out; a caller whose line fits gets every byte.
-ghost use Rattle.std.specs.Prelude.{◌≡◌, [], ◌∷◌, min};
+// A line under way. What does not fit is left out whole; a caller whose line fits gets every byte.
+ghost use Rattle.std.specs.Prelude.{◌≡◌, [], ◌∷◌};
 ghost use Rattle.text.specs.Text.{decimal, spaced};
-ghost use Rattle.text.specs.Lines.{line_size, shown, Appended, Put};
+ghost use Rattle.text.specs.Lines.{shown, Appended, Put};
+
+use arrayvec::ArrayVec;
+use itoa::Buffer;
 
 #[derive(Drop)]
 pub struct Line {
-    pub bytes: [u8; 512],
-    pub len: usize,
+    pub bytes: ArrayVec<u8, 512>,
 }
-
-const SIZE: usize = 512;
 
 impl Line {
     pub fn empty() -> Line
-        ensures { (result.len ≡ 0) × (shown result ≡ []) }
+        ensures { shown result ≡ [] }
     {
         Line {
-            bytes: [0u8; 512],
-            len: 0,
+            bytes: ArrayVec::new(),
         }
     }
 
-    pub fn put(mut self, byte: u8) -> Line
-        ensures { Appended self (byte ∷ []) result }
+    pub fn put(&mut self, byte: u8)
+        ensures { Appended self.old (byte ∷ []) self.new }
     {
-        let at = self.len;
-        if SIZE <= at {
-            return self;
-        }
-        self.bytes[at] = byte;
-        self.len = at + 1;
-        self
+        let _ = self.bytes.try_push(byte);
     }
 
-    pub fn put_all(self, word: &[u8]) -> Line
-        ensures { Appended self word.now result }
+    pub fn put_all(&mut self, word: &[u8])
+        ensures { Appended self.old word.now self.new }
     {
-        let at = self.len;
-        let mut line = self;
-        if SIZE < at {
-            return line;
-        }
-        if SIZE - at < word.len() {
-            return line;
-        }
-        let mut i = 0;
-        while i < word.len() {
-            line.bytes[at + i] = word[i];
-            i += 1;
-        }
-        line.len = at + i;
-        line
+        let _ = self.bytes.try_extend_from_slice(word);
     }
 
-    pub fn put_decimal(self, number: u64) -> Line
-        ensures { Appended self (decimal number) result }
+    pub fn put_decimal(&mut self, number: u64)
+        ensures { Appended self.old (decimal number) self.new }
     {
-        let mut digits = [0u8; 20];
-        let mut at = 19;
-        let mut n = number;
-        while 10 <= n {
-            digits[at] = (48 + n % 10) as u8;
-            at -= 1;
-            n = n / 10;
-        }
-        digits[at] = (48 + n) as u8;
-        self.put_all(&digits[at..])
+        self.put_all(Buffer::new().format(number).as_bytes());
     }
 
     // Each number after a space.
-    pub fn put_numbers(self, numbers: &[u64]) -> Line
-        ensures { Appended self (spaced numbers.now) result }
+    pub fn put_numbers(&mut self, numbers: &[u64])
+        ensures { Appended self.old (spaced numbers.now) self.new }
     {
-        let mut line = self;
-        let mut i = 0;
-        while i < numbers.len() {
-            let next = line.put(b' ').put_decimal(numbers[i]);
-            line = next;
-            i += 1;
+        for &number in numbers {
+            self.put(b' ');
+            self.put_decimal(number);
         }
-        line
     }
 }
 
-// How many bytes of a line are shown.
-fn shown_size(len: usize) -> usize
-    ensures { result ≡ min len line_size }
+// Bytes into a buffer, and the place behind them; where there is no room for all of them, nothing.
+pub fn put_bytes(out: &mut [u8], at: usize, bytes: &[u8]) -> usize
+    ensures { Put bytes.now at out.old out.new result }
 {
-    if len < SIZE {
-        return len;
+    let end = at.saturating_add(bytes.len());
+    if out.len() < end {
+        return at;
     }
-    SIZE
+    out[at..end].copy_from_slice(bytes);
+    end
 }
 
-// A line into a buffer, and the place behind it; where there is no room, nothing.
-pub fn put_line(out: &mut [u8], at: usize, line: Line) -> usize
-    ensures { Put (shown line) at out.old out.new result }
+pub fn put_line(out: &mut [u8], at: usize, line: &Line) -> usize
+    ensures { Put (shown line.now) at out.old out.new result }
 {
-    let bytes = line.bytes;
-    let len = shown_size(line.len);
-    if out.len() < len {
-        return at;
-    }
-    if out.len() - len < at {
-        return at;
-    }
-    for i in 0..len {
-        out[at + i] = bytes[i];
-    }
-    at + len
+    put_bytes(out, at, line.bytes.as_slice())
 }

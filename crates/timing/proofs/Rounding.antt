@@ -3,8 +3,10 @@
 use mathlib.Core.Path.{◌≡◌, ◌∙◌, ap}
 use mathlib.Core.Logic.{◌↔◌}
 use Prim.Native.Nat.{ℕ, ◌+◌, ◌-◌, ◌*◌, ◌/◌, ◌%◌, ◌≤◌, ◌<◌}
-use native.Mathlib.Nat.{lt-div-mul-add, div-lt_iff_lt-mul, div-eq_of_lt, div-mul-le_self, div-add-mod', mul-mod_left, mul-le-mul_right}
+use native.Mathlib.Nat.{lt_of_mul-lt-mul_right, lt-div-mul-add, div-lt_iff_lt-mul, div-eq_of_lt, div-mul-le_self, div-add-mod', mul-mod_left, mul-le-mul_right}
 use native.Mathlib.Omega.{arith}
+use Rattle.std.specs.Int.{div_ceil}
+use Rattle.std.proofs.lemmas.Grind.{div_ceil_times}
 use Rattle.timing.specs.Clocks.{ceil_div}
 
 module _ (ratio : ℕ) (above : 0 < ratio) where
@@ -33,3 +35,11 @@ module _ (ratio : ℕ) (above : 0 < ratio) where
           let whole = div-add-mod' gap ratio in
           let less = rounding_least gap (gap / ratio) (omega (arith, whole)) in
           omega (arith, whole, mul-le-mul_right {m = ceil_div gap ratio} {n = gap / ratio} ratio less)
+
+  -- the library's division, rounded up
+  pub rounding_library : (gap : ℕ) → div_ceil gap ratio ≡ ceil_div gap ratio
+  rounding_library gap =
+      let bounds = div_ceil_times gap ratio above in
+      let least = rounding_least gap (div_ceil gap ratio) bounds.0 in
+      let below : div_ceil gap ratio * ratio < (ceil_div gap ratio + 1) * ratio = omega (arith, bounds, rounding_lasts gap) in
+      omega (arith, least, lt_of_mul-lt-mul_right ratio below)

@@ -11,10 +11,12 @@ use lib.Dec.{T, eqb, eqb→eq, leb, ltb, ltb→lt, lit<, lit≤}
 use lib.ListN.{get_or}
 use borrow.Author.Tests.{lt-ltb, ltb-true, ltb-false, leb-true, leb-false, le-leb, lt-leb}
 use Rattle.timing.specs.declared.kinds.CommandKind.{CommandKind}
+use Rattle.timing.specs.declared.rules.Class.{Class}
+use Rattle.timing.specs.declared.rules.Class.TheVariants.{SameBank, SameGroup, Apart}
 use Rattle.timing.specs.declared.rules.Opening.{Opening}
 use Rattle.timing.specs.Kinds.{code_of, all_banks}
 use Rattle.timing.specs.Editions.{any_precharge, last_rules, rule_editions, has, has_rules}
-use Rattle.timing.specs.Rules.{class_for, rules, matching, rule_gap, first_or0, table_gap, matches, Rule, covers, mode_count}
+use Rattle.timing.specs.Rules.{class_number, class_for, rules, matching, rule_gap, first_or0, table_gap, matches, Rule, covers, mode_count}
 use Rattle.timing.specs.Table.{ungrouped, grouped, ungrouped_since1, grouped_since1, layer_of, layer_place, table_length, matching_at, entry_at, opened_as, alone, agrees_below, agrees}
 use Rattle.timing.proofs.Truth.{and_left, and_right, true_is}
 use Rattle.timing.proofs.KindLaws.{code_low, code_high, kind_at_code}
@@ -177,6 +179,11 @@ module _ (o : Opening) (class : ℕ) (a b : CommandKind) where
       go : (y : Bool) → cond y (first_or0 (matching o class a b rules)) 0 < 20
       go true = first_low rules all_numbered
       go false = lit< tt
+
+pub class_below : (k : Class) → class_number k < 3
+class_below SameBank = lit< tt
+class_below SameGroup = lit< tt
+class_below Apart = lit< tt
 
 pub class_low : (a b : CommandKind) (near : ℕ) → near < 3 → class_for a b near < 3
 class_low a b near l = go (all_banks a || all_banks b)

@@ -1,9 +1,7 @@
 -- The seven command kinds and their code numbers: ACT 1, RD 2, WR 3, PREPB 4, PREAB 5, REFAB 6, REFPB 7.
-use Rattle.std.specs.Prelude.{ℕ, Bool, true, false, cond, eqb}
+use Rattle.std.specs.Prelude.{ℕ, Bool, true, false, cond, eqb, Option, Some, None}
 use Rattle.timing.specs.declared.kinds.CommandKind.{CommandKind}
 use Rattle.timing.specs.declared.kinds.CommandKind.TheVariants.{Act, Rd, Wr, Prepb, Preab, Refab, Refpb}
-use Rattle.timing.specs.declared.kinds.MaybeKind.{MaybeKind}
-use Rattle.timing.specs.declared.kinds.MaybeKind.TheVariants.{Kind, NoKind}
 
 abbrev pub code_of : CommandKind → ℕ
 code_of Act = 1
@@ -14,15 +12,15 @@ code_of Preab = 5
 code_of Refab = 6
 code_of Refpb = 7
 
-abbrev pub kind_of : ℕ → MaybeKind
+abbrev pub kind_of : ℕ → Option CommandKind
 kind_of n =
-    cond (eqb n 1) (Kind Act)
-    (cond (eqb n 2) (Kind Rd)
-    (cond (eqb n 3) (Kind Wr)
-    (cond (eqb n 4) (Kind Prepb)
-    (cond (eqb n 5) (Kind Preab)
-    (cond (eqb n 6) (Kind Refab)
-    (cond (eqb n 7) (Kind Refpb) NoKind))))))
+    cond (eqb n 1) (Some Act)
+    (cond (eqb n 2) (Some Rd)
+    (cond (eqb n 3) (Some Wr)
+    (cond (eqb n 4) (Some Prepb)
+    (cond (eqb n 5) (Some Preab)
+    (cond (eqb n 6) (Some Refab)
+    (cond (eqb n 7) (Some Refpb) None))))))
 
 abbrev pub same_kind : CommandKind → CommandKind → Bool
 same_kind a b = eqb (code_of a) (code_of b)

@@ -4,6 +4,8 @@ use Rattle.timing.specs.declared.kinds.CommandKind.{CommandKind}
 use Rattle.timing.specs.declared.kinds.CommandKind.TheVariants.{Act, Rd, Wr, Prepb, Preab, Refab, Refpb}
 use Rattle.timing.specs.declared.rules.Opening.{Opening}
 use Rattle.timing.specs.declared.rules.Command.{Command}
+use Rattle.timing.specs.declared.rules.Class.{Class}
+use Rattle.timing.specs.declared.rules.Class.TheVariants.{SameBank, SameGroup, Apart}
 use Rattle.timing.specs.Kinds.{same_kind, all_banks}
 use Rattle.timing.specs.Editions.{document_one, any_precharge, has}
 
@@ -14,6 +16,12 @@ group_of o bank = cond (eqb o.mode 2) (bank / 4) (bank / 2)
 -- class 0: both name the same bank; 1: different banks, same group; 2: everything else, and always when either is PREAB or REFAB
 abbrev pub nearness : Opening → ℕ → ℕ → ℕ
 nearness o a b = cond (eqb a b) 0 (cond (eqb (group_of o a) (group_of o b)) 1 2)
+
+-- the program's classes by these numbers
+abbrev pub class_number : Class → ℕ
+class_number SameBank = 0
+class_number SameGroup = 1
+class_number Apart = 2
 
 abbrev pub class_for : CommandKind → CommandKind → ℕ → ℕ
 class_for a b near = cond (all_banks a || all_banks b) 2 near

@@ -24,15 +24,15 @@ impl DramCycles {
     pub fn converted(self, opening: Opening) -> Converted
         ensures { result ≡ converted opening self }
     {
-        let gap = self.0 as u64;
-        let ratio = opening.ratio as u64;
-        if ratio == 0 {
+        if opening.ratio == 0 {
             return Converted {
                 rounded: ControllerCycles(0),
                 lost: DramCycles(0),
             };
         }
-        let rounded = (gap + (ratio - 1)) / ratio;
+        let gap = u64::from(self.0);
+        let ratio = u64::from(opening.ratio);
+        let rounded = gap.div_ceil(ratio);
         Converted {
             rounded: ControllerCycles(rounded),
             lost: DramCycles((rounded * ratio - gap) as u16),

@@ -1,12 +1,12 @@
 // The rules 1 to 19 as one constant table of gap numbers, 882 over the editions and modes; two modes share their layers.
 ghost use Rattle.std.specs.Prelude.{◌≡◌, ◌<◌, ◌-◌};
 ghost use Rattle.timing.specs.Kinds.{code_of};
-ghost use Rattle.timing.specs.Rules.{table_gap};
+ghost use Rattle.timing.specs.Rules.{class_number, table_gap};
 ghost use Rattle.timing.specs.Table.{layer_of};
 
 use crate::editions::ANY_PRECHARGE;
 use crate::kinds::CommandKind;
-use crate::rules::Opening;
+use crate::rules::{Class, Opening};
 
 // Gap numbers over class, first and second kind; 0: none. Edition 0, mode 0.
 const UNGROUPED: [u8; 147] = [
@@ -48,22 +48,12 @@ const GROUPED_SINCE_1: [u8; 147] = [
 pub fn table(opening: Opening) -> [u8; 147]
     ensures { result ≡ layer_of opening }
 {
-    if opening.edition < ANY_PRECHARGE {
-        if opening.mode == 0 {
-            return UNGROUPED;
-        }
-        return GROUPED;
+    match (opening.edition < ANY_PRECHARGE, opening.mode == 0) {
+        (true, true) => UNGROUPED,
+        (true, false) => GROUPED,
+        (false, true) => UNGROUPED_SINCE_1,
+        (false, false) => GROUPED_SINCE_1,
     }
-    if opening.mode == 0 {
-        return UNGROUPED_SINCE_1;
-    }
-    GROUPED_SINCE_1
-}
-
-fn wide(x: u8) -> usize
-    ensures { result ≡ x }
-{
-    x as usize
 }
 
 // A kind's place in a row or a column of the table.
@@ -77,18 +67,17 @@ pub fn place_of(kind: CommandKind) -> usize
 pub fn gap_number(
     table: &[u8; 147],
     opening: Opening,
-    class: usize,
+    class: Class,
     first: CommandKind,
     second: CommandKind,
 ) -> usize
-    requires table_value { table.now ≡ layer_of opening }
-    requires class_bound { class < 3 }
-    ensures { result ≡ table_gap opening class first second }
+    requires { table.now ≡ layer_of opening }
+    ensures { result ≡ table_gap opening (class_number class) first second }
 {
     if 3 <= opening.mode {
         return 0;
     }
     let row = place_of(first);
     let column = place_of(second);
-    wide(table[(class * 7 + row) * 7 + column])
+    usize::from(table[(class.number() * 7 + row) * 7 + column])
 }

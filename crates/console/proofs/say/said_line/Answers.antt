@@ -1,20 +1,23 @@
 -- `said_line` meets its contract.
-use mathlib.Core.Path.{◌≡◌}
+use Prim.Native.Nat.{◌-◌, ◌≤◌, ◌<◌}
+use native.Mathlib.Omega.{arith}
 use lib.ListN.{length}
+use Rattle.std.proofs.Common.{rules, tests}
 use Rattle.text.specs.Text.{text}
 use Rattle.console.proofs.SayLaws.{line_plain, line_bytes}
-use borrow.Author.Rules.{rules}
 use Rattle.console.proofs.say.said_line.Goals as goal
 
-pub returns-then-said-eq0 : goal.returns-then-said-eq0
-returns-then-said-eq0 c =
-    let a = c.args.said in
-    let size : length a.numbers ≡ 22 = search rules in
-    line_plain a.row a.numbers a.count c.least-count.result a.hex_count c.word_line.result c.put_numbers-line.result size c.least-count.ensures c.word_line.ensures c.put_numbers-line.ensures c.if-said-eq0.true
-
-pub returns : goal.returns
+pub returns-then-not-is_empty : goal.returns-then-not-is_empty
 unfolding text
-returns c =
-    let a = c.args.said in
-    let size : length a.numbers ≡ 22 = search rules in
-    line_bytes a.row a.numbers a.count c.least-count.result a.hex_count c.word_line.result c.put_numbers-line.result size c.least-count.ensures c.word_line.ensures c.put_numbers-line.ensures c.if-said-eq0.false c.put.result c.put.ensures
+returns-then-not-is_empty c =
+    let a = c.args.said.now in
+    let few : length a.numbers.items ≤ 22 = rw c.as_slice.ensures.value at c.as_slice.ensures.fits in
+    let some : a.shown.start < a.shown.end = search (rules, tests) in
+    line_bytes a.request a.numbers.items (a.shown.end - a.shown.start) c.empty-line.result c.put_all.new.self c.put_numbers.new.self few c.empty-line.ensures (rw c.word.ensures at c.put_all.ensures) (rw c.as_slice.ensures.value at c.put_numbers.ensures) (λ none. omega (arith, some)) c.put.new.self c.put.ensures
+
+pub returns-else-not-is_empty : goal.returns-else-not-is_empty
+returns-else-not-is_empty c =
+    let a = c.args.said.now in
+    let few : length a.numbers.items ≤ 22 = rw c.as_slice.ensures.value at c.as_slice.ensures.fits in
+    let none : a.shown.end ≤ a.shown.start = search (rules, tests) in
+    line_plain a.request a.numbers.items (a.shown.end - a.shown.start) c.empty-line.result c.put_all.new.self c.put_numbers.new.self few c.empty-line.ensures (rw c.word.ensures at c.put_all.ensures) (rw c.as_slice.ensures.value at c.put_numbers.ensures) (omega (arith, none))

@@ -1,26 +1,26 @@
 -- `named` meets its contract.
 use mathlib.Core.Path.{sym, ◌∙◌, ap}
-use mathlib.Core.Bool.{true, false}
-use Rattle.text.specs.Text.{text}
-use Rattle.requests.specs.declared.forms.Form.{Form}
-use Rattle.requests.proofs.FormLaws.{joined}
-use Rattle.requests.proofs.RequestLaws.{named_none, named_memory, named_file}
+use mathlib.Core.Bool.{◌&&◌}
+use borrow.Author.Rules.{rules}
+use borrow.Author.Tests.{tests}
+use Rattle.std.specs.Option.{unwrap_or}
+use Rattle.std.specs.Str.{bytes_eq}
+use Rattle.std.proofs.lemmas.Iterator.{YieldsList-from_slice}
+use Rattle.std.proofs.lemmas.Iterator.Consumers.{YieldsList-at, YieldsList-from_copied}
+use Rattle.std.proofs.lemmas.Iterator.Search.{find_from_yields_List}
+use Rattle.requests.specs.declared.forms.Request.TheVariants.{Malformed}
+use Rattle.requests.specs.Forms.{named_requests, word_of}
+use Rattle.requests.specs.Requests.{stands, named}
+use Rattle.requests.proofs.RequestLaws.{option_map_same}
 use Rattle.requests.proofs.requests.named.Goals as goal
 
-pub returns-then-row-ge-ROWS : goal.returns-then-row-ge-ROWS
-unfolding text joined
-returns-then-row-ge-ROWS c = named_none c.args.in_file c.args.word.now _ c.index_of-row.ensures c.if-row-ge-ROWS.true
-
-pub returns-then-not-in_file : goal.returns-then-not-in_file
-unfolding text joined
-returns-then-not-in_file c = named_memory c.args.in_file c.args.word.now _ c.index_of-row.ensures c.if-row-ge-ROWS.false c.if-not-in_file.true
-
-pub returns-then-form_at : goal.returns-then-form_at
-unfolding text joined
-returns-then-form_at c =
-    named_file c.args.in_file c.args.word.now _ c.index_of-row.ensures c.if-row-ge-ROWS.false c.if-not-in_file.false true (ap (λ (f : Form). f.7) (sym c.form_at.ensures) ∙ c.if-form_at.true)
-
 pub returns : goal.returns
-unfolding text joined
+unfolding named
 returns c =
-    named_file c.args.in_file c.args.word.now _ c.index_of-row.ensures c.if-row-ge-ROWS.false c.if-not-in_file.false false (ap (λ (f : Form). f.7) (sym c.form_at.ensures) ∙ c.if-form_at.false)
+    let a = c.args in
+    c.unwrap_or.ensures
+    ∙ ap (λ r. unwrap_or r Malformed)
+    (sym (option_map_same c.find-request.result)
+    ∙ find_from_yields_List (λ q. bytes_eq (word_of q) a.word.now && stands a.in_file q) _ _ c.find-request.result c.find-request.ensures.ran
+    (YieldsList-from_copied (YieldsList-at c.copied-requests.ensures.source (YieldsList-from_slice named_requests c.iter.ensures.rest)))
+    (λ x b q k. search (rules, tests)))

@@ -1,45 +1,40 @@
 -- `parse` meets its contract.
-use mathlib.Core.Path.{sym, ◌∙◌, ap}
-use native.Mathlib.Omega.{arith}
-use lib.ListN.{drop}
+use mathlib.Core.Path.{sym, ◌∙◌}
 use Rattle.requests.specs.Words.{words}
-use Rattle.requests.specs.Requests.{asked_by, read_from}
-use Rattle.requests.proofs.WordLaws.{word_places, word_bytes, next_empty, next_cons, word_first}
-use Rattle.requests.proofs.RequestLaws.{none_asked, comment_is, form_is}
+use Rattle.requests.specs.Requests.{filled}
+use Rattle.requests.proofs.RequestLaws.{asked_none, asked_comment, asked_named}
 use Rattle.requests.proofs.requests.parse.Goals as goal
+use Rattle.requests.proofs.requests.parse.Goals.{in_default-read_numbers-via-in-Some-read_numbers+else-is_whole, in_default-read_numbers-via-in_default-read_numbers}
 
-pub returns-then-end-start : goal.returns-then-end-start
-unfolding asked_by
-returns-then-end-start c =
-    let w = c.next_word-word in
+pub returns-in_default : goal.returns-in_default
+returns-in_default c = let a = c.args in c.without_numbers.ensures ∙ sym (asked_none a.in_file (words a.line.now) c.in_default.ensures)
+
+pub returns-then-starts_with : goal.returns-then-starts_with
+returns-then-starts_with c =
     let a = c.args in
-    none_asked _ _ c.nothing.result _ (ap (asked_by a.in_file) (next_empty a.line.now 0 w.result w.ensures c.if-end-start.true)) c.nothing.ensures
+    c.without_numbers-then-starts_with.ensures
+    ∙ sym (asked_comment a.in_file (words a.line.now) c.in-Some.word.now c.in-Some.ensures (sym c.starts_with.ensures.value ∙ c.if-starts_with.true))
 
-pub bounds-line-start : goal.bounds-line-start
-bounds-line-start c =
-    let w = c.next_word-word in
-    omega (arith, (word_places c.args.line.now 0 w.result w.ensures).1, c.if-end-start.false)
-
-pub returns-then-line-start-eq-COMMENT : goal.returns-then-line-start-eq-COMMENT
-returns-then-line-start-eq-COMMENT c =
-    let w = c.next_word-word in
+pub returns-in-Some-read_numbers : goal.returns-in-Some-read_numbers
+unfolding filled
+returns-in-Some-read_numbers c =
     let a = c.args in
-    let line = a.line.now in
-    none_asked _ _ c.nothing-then-line-start-eq-COMMENT.result _
-    (ap (asked_by a.in_file) (next_cons line 0 w.result w.ensures c.if-end-start.false) ∙ comment_is a.in_file (word_bytes line 0 w.result w.ensures) (words (drop w.result.end line)) (word_first line 0 w.result w.ensures c.if-end-start.false ∙ c.if-line-start-eq-COMMENT.true))
-    c.nothing-then-line-start-eq-COMMENT.ensures
+    let read = rw c.form-form.ensures at c.in-Some-read_numbers.ensures in
+    let whole = rw c.form-form.ensures at (sym c.is_whole.ensures ∙ c.if-is_whole.true) in
+    sym (asked_named a.in_file (words a.line.now) c.in-Some.word.now c.in-Some.ensures (sym c.starts_with.ensures.value ∙ c.if-starts_with.false) c.named-request.result c.named-request.ensures ∙ rw (← read, whole))
 
-pub slice_bounds-named-end : goal.slice_bounds-named-end
-slice_bounds-named-end c =
-    let w = c.next_word-word in
-    (word_places c.args.line.now 0 w.result w.ensures).1
-
-pub returns : goal.returns
-returns c =
-    let w = c.next_word-word in
+pub returns-in_default-read_numbers : goal.returns-in_default-read_numbers
+unfolding filled
+returns-in_default-read_numbers c =
     let a = c.args in
-    let line = a.line.now in
-    let row = c.named-row.result in
-    let rest = words (drop w.result.end line) in
-    rw (ap (asked_by a.in_file) (next_cons line 0 w.result w.ensures c.if-end-start.false) ∙ form_is a.in_file (word_bytes line 0 w.result w.ensures) rest (λ e. c.if-line-start-eq-COMMENT.false (sym (word_first line 0 w.result w.ensures c.if-end-start.false) ∙ e)) row c.named-row.ensures)
-    (rw (← c.form_at-form.ensures) (c.filled.ensures (read_from c.form_at-form.result 0 rest) _ c.read_numbers-count.ensures))
+    c.without_numbers-in_default-read_numbers.ensures
+    ∙ sym (asked_named a.in_file (words a.line.now) c.in-Some.word.now c.in-Some.ensures (sym c.starts_with.ensures.value ∙ c.if-starts_with.false) c.named-request.result c.named-request.ensures
+    ∙ (elim c.in_default-read_numbers.branch [
+      | in_default-read_numbers-via-in-Some-read_numbers+else-is_whole w ↦
+          let read = rw c.form-form.ensures at w.in-Some-read_numbers.ensures in
+          let part = rw c.form-form.ensures at (sym w.is_whole.ensures ∙ w.if-is_whole.false) in
+          rw (← read, part)
+      | in_default-read_numbers-via-in_default-read_numbers w ↦
+          let none = rw c.form-form.ensures at w.in_default-read_numbers.ensures in
+          rw (← none)
+    ]))

@@ -1,28 +1,25 @@
 -- `parse_line` meets its contract.
-use Rattle.requests.proofs.RequestLaws.{none_asked, asked_empty, asked_cut, asked_long, asked_return, asked_ended}
+use mathlib.Core.Path.{sym, ◌∙◌}
+use native.Mathlib.Omega.{arith}
+use borrow.Author.Tests.{eqb-true, eqb-false}
+use lib.ListN.{length}
+use Rattle.requests.proofs.RequestLaws.{asked_empty, asked_bad, asked_whole, stripped}
 use Rattle.requests.proofs.requests.parse_line.Goals as goal
 
-pub returns-then-line-eq0 : goal.returns-then-line-eq0
-returns-then-line-eq0 c =
+pub returns-then-is_empty : goal.returns-then-is_empty
+returns-then-is_empty c =
     let a = c.args in
-    none_asked _ _ c.nothing.result _ (asked_empty a.in_file a.line.now a.ended c.if-line-eq0.true) c.nothing.ensures
+    c.without_numbers.ensures ∙ sym (asked_empty a.in_file a.line.now a.ended (eqb-true (length a.line.now) 0 (sym c.is_empty.ensures ∙ c.if-is_empty.true)))
 
 pub returns-then-not-ended : goal.returns-then-not-ended
 returns-then-not-ended c =
     let a = c.args in
-    none_asked _ _ c.malformed.result _ (asked_cut a.in_file a.line.now a.ended c.if-not-ended.true c.if-line-eq0.false) c.malformed.ensures
-
-pub returns-then-line-gt-MAX_LINE : goal.returns-then-line-gt-MAX_LINE
-returns-then-line-gt-MAX_LINE c =
-    let a = c.args in
-    none_asked _ _ c.malformed-then-line-gt-MAX_LINE.result _ (asked_long a.in_file a.line.now a.ended c.if-not-ended.false c.if-line-gt-MAX_LINE.true) c.malformed-then-line-gt-MAX_LINE.ensures
-
-pub returns-then-line-last-eq-RETURN : goal.returns-then-line-last-eq-RETURN
-returns-then-line-last-eq-RETURN c =
-    let a = c.args in
-    rw (asked_return a.in_file a.line.now a.ended c.if-not-ended.false c.if-line-gt-MAX_LINE.false c.if-line-last-eq-RETURN.true) c.parse.ensures
+    c.without_numbers-then-not-ended.ensures
+    ∙ sym (asked_bad a.in_file a.line.now a.ended (eqb-false (length a.line.now) 0 (sym c.is_empty.ensures ∙ c.if-is_empty.false)) c.then-not-ended.either)
 
 pub returns : goal.returns
 returns c =
     let a = c.args in
-    rw (asked_ended a.in_file a.line.now a.ended c.if-not-ended.false c.if-line-gt-MAX_LINE.false c.if-line-last-eq-RETURN.false) c.parse-2.ensures
+    let some = eqb-false (length a.line.now) 0 (sym c.is_empty.ensures ∙ c.if-is_empty.false) in
+    rw (asked_whole a.in_file a.line.now a.ended c.if-not-ended.false c.if-line-gt-MAX_LINE.false, ← stripped a.line c.strip_suffix.result (omega (arith, some)) c.strip_suffix.ensures.cases, ← c.unwrap_or-line.ensures)
+    c.parse.ensures

@@ -1,24 +1,24 @@
--- `number_of` meets its contract.
-use mathlib.Core.Path.{sym}
-use Rattle.requests.proofs.WordLaws.{reading_bad, reading_large, reading_next, reading_end}
+-- `number_of` meets its contract: the value under way makes the same number with the bytes left.
+use mathlib.Core.Path.{sym, ◌∙◌}
+use native.Mathlib.Omega.{arith}
+use Rattle.requests.proofs.WordLaws.{number_large, number_next, number_end}
 use Rattle.requests.proofs.words.number_of.Goals as goal
 
-pub returns-then-digit-ge10 : goal.returns-then-digit-ge10
-returns-then-digit-ge10 c =
-    let l = c.loop-i in
-    sym (reading_bad c.args.word.now l.value l.i _ l.invariant c.loop-i-test.true c.digit_value-digit.ensures c.if-digit-ge10.true)
+pub returns-in_err-checked_mul : goal.returns-in_err-checked_mul
+returns-in_err-checked_mul c =
+    let l = c.loop-byte in
+    c.from_residual-in_err-checked_mul.ensures ∙ sym (l.invariant.1 ∙ number_large _ l.value l.byte-index _ c.loop-byte-test.true c.in_ok-digit.ensures (omega (arith, c.in_err-checked_mul.ensures)))
 
-pub returns-then-digit-value : goal.returns-then-digit-value
-returns-then-digit-value c =
-    let l = c.loop-i in
-    sym (reading_large c.args.word.now l.value l.i _ l.invariant c.loop-i-test.true c.digit_value-digit.ensures c.if-digit-ge10.false c.if-digit-value.true)
+pub returns-in_err-value : goal.returns-in_err-value
+returns-in_err-value c =
+    let l = c.loop-byte in
+    c.from_residual-in_err-value.ensures ∙ sym (l.invariant.1 ∙ number_large _ l.value l.byte-index _ c.loop-byte-test.true c.in_ok-digit.ensures (omega (arith, c.in_ok-checked_mul.ensures, c.in_err-value.ensures)))
 
-pub loop-i-preserved : goal.loop-i-preserved
-loop-i-preserved c =
-    let l = c.loop-i in
-    reading_next c.args.word.now l.value l.i _ l.invariant c.loop-i-test.true c.digit_value-digit.ensures c.if-digit-ge10.false c.if-digit-value.false
+pub loop-byte-preserved : goal.loop-byte-preserved
+loop-byte-preserved c =
+    let l = c.loop-byte in
+    let value = c.in_ok-value.ensures in
+    (omega (arith, value), l.invariant.1 ∙ rw (value.1, c.in_ok-checked_mul.ensures.1) (number_next _ l.value l.byte-index _ c.loop-byte-test.true c.in_ok-digit.ensures))
 
 pub returns : goal.returns
-returns c =
-    let l = c.loop-i in
-    sym (reading_end c.args.word.now l.value l.i l.invariant c.loop-i-test.false c.if-word-eq0.false)
+returns c = let l = c.loop-byte in sym (l.invariant.1 ∙ number_end _ l.value l.byte-index l.invariant.0 c.loop-byte-test.false)

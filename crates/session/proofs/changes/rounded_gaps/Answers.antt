@@ -16,8 +16,8 @@ loop-i-preserved c =
     let size = rounded_size a.opening a.gaps ∙ c.well_formed.1.0.1.0.1 in (
       omega arith,
       simp length-set l.invariant.1,
-      fill_more (cycles (rounded_up a.opening (record { 0 = 0 }))) l.rounded (rounded_gaps a.opening a.gaps) l.i c.converted-both.result.rounded (omega arith) (omega arith)
-          l.invariant.2 (ap (λ (x : Converted). x.rounded) c.converted-both.ensures ∙ rounded_at a.opening a.gaps l.i),
+      fill_more (cycles (rounded_up a.opening (record { 0 = 0 }))) l.rounded (rounded_gaps a.opening a.gaps) l.i c.converted.result.rounded (omega arith) (omega arith)
+          l.invariant.2 (ap (λ (x : Converted). x.rounded) c.converted.ensures ∙ rounded_at a.opening a.gaps l.i),
     )
 
 pub returns : goal.returns

@@ -1,20 +1,21 @@
 -- `table` meets its contract.
-use borrow.Author.Tests.{ne_eqb, le-leb, lt-leb}
+use native.Mathlib.Omega.{arith}
+use Rattle.std.proofs.lemmas.Grind.{common_steps}
 use Rattle.timing.specs.Table.{ungrouped, grouped, ungrouped_since1, grouped_since1}
 use Rattle.timing.proofs.table.table.Goals as goal
 
-pub returns-then-opening-eq0 : goal.returns-then-opening-eq0
+pub returns-in-true-true : goal.returns-in-true-true
 unfolding ungrouped
-returns-then-opening-eq0 c = rw (lt-leb _ _ c.if-opening-lt-ANY_PRECHARGE.true, c.if-opening-eq0.true)
+returns-in-true-true c = grind (arith, common_steps)
 
-pub returns-then-opening-lt-ANY_PRECHARGE : goal.returns-then-opening-lt-ANY_PRECHARGE
+pub returns-in-true-false : goal.returns-in-true-false
 unfolding grouped
-returns-then-opening-lt-ANY_PRECHARGE c = rw (lt-leb _ _ c.if-opening-lt-ANY_PRECHARGE.true, ne_eqb _ _ c.if-opening-eq0.false)
+returns-in-true-false c = grind (arith, common_steps)
 
-pub returns-then-opening-eq0-2 : goal.returns-then-opening-eq0-2
+pub returns-in-false-true : goal.returns-in-false-true
 unfolding ungrouped_since1
-returns-then-opening-eq0-2 c = rw (le-leb _ _ c.if-opening-lt-ANY_PRECHARGE.false, c.if-opening-eq0-2.true)
+returns-in-false-true c = grind (arith, common_steps)
 
-pub returns : goal.returns
+pub returns-in-false-false : goal.returns-in-false-false
 unfolding grouped_since1
-returns c = rw (le-leb _ _ c.if-opening-lt-ANY_PRECHARGE.false, ne_eqb _ _ c.if-opening-eq0-2.false)
+returns-in-false-false c = grind (arith, common_steps)

@@ -4,4 +4,4 @@ use Rattle.session.proofs.state.Progress.popped.Goals as goal
 
 pub returns : goal.returns
 unfolding popped_progress
-returns c = rw (c.one_more.ensures, c.one_less-2.ensures, c.one_less.ensures, c.place_back.ensures.0, c.unshifted-activates.ensures, c.slot_in.ensures.0)
+returns c = rw (c.one_more.ensures, c.saturating_sub-2.ensures, c.saturating_sub.ensures, c.place_back.ensures.0, c.unshifted.ensures, c.slot_in.ensures)

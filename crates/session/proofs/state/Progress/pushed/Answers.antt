@@ -5,4 +5,4 @@ use Rattle.session.proofs.state.Progress.pushed.Goals as goal
 pub returns : goal.returns
 unfolding pushed_progress
 returns c =
-    rw (c.banks_after.ensures, c.one_more-2.ensures, c.deeper.ensures, c.one_more.ensures, c.struct_known-1.given, c.shifted-activates.ensures, c.before-1.given)
+    rw (c.banks_after.ensures, c.one_more-2.ensures, c.deeper.ensures, c.one_more.ensures, c.struct_known-1.given, c.shifted.ensures)

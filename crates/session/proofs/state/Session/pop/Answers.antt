@@ -4,5 +4,5 @@ use Rattle.session.proofs.state.Session.pop.Goals as goal
 
 pub returns : goal.returns
 returns c =
-    let at = c.place_back-at in
-    popped_as _ _ at.result _ at.ensures.0 c.slot_in-slot.ensures.0 c.popped-next.ensures
+    let at = c.place_back in
+    popped_as _ _ at.result _ at.ensures.0 c.slot_in.ensures c.popped-self.ensures
