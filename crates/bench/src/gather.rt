@@ -14,7 +14,8 @@ const MARGIN: usize = 16384;
 // Journal bytes shown at once.
 const PIECE: usize = 4096;
 
-// The answers gathered and not yet written. Lines and hexadecimal are put at a place of a slice, so the length stands beside it.
+// The answers gathered and not yet written. `put_line` and `put_hex` promise what they put at a
+// place of a slice (`Put`), and there is no heap, so the length stands beside it.
 #[derive(Drop)]
 pub struct Answers<'a> {
     stdout: Stdout,

@@ -7,6 +7,7 @@ use console::say::numbered;
 use filing::JournalFile;
 use filing::faults::Refusal;
 use gather::Answers;
+use judging::answers::Answer;
 use play::{Stop, Streams, run};
 use requests::forms::Request;
 use restoring::restore::restore;
@@ -38,52 +39,61 @@ fn say_restored(stdout: Stdout, number: u64, record: u64) -> io::Result<()> {
     answers.flush()
 }
 
-// What the file's bytes restore, and then the trace; where they are refused, what a person can do.
-fn play_restored(streams: Streams, file: &JournalFile<'_>, bytes: usize, journal: &mut [u8])
-    requires { bytes ≤ length journal.old }
-{
-    let restored = restore(&journal[..bytes]);
-    let number = restored.number;
-    let record = restored.record;
-    if let Err(reason) = say_restored(streams.answers, number, record) {
-        Stop::Unwritten(reason).tell(streams.errors);
-    } else if number == 0 {
-        run(restored.session, streams, Some(file), journal);
-    } else {
-        file.explain_bad(streams.errors, &journal[..bytes], record);
-    }
-}
-
-fn play_file<R: Files<File = File>>(
-    files: &R,
+// What a trace is played with: the streams, and the journal's memory.
+#[derive(Drop)]
+struct Bench<'a> {
     streams: Streams,
-    path: &[u8],
-    journal: &mut [u8],
-) -> Result<(), Refusal> {
-    let file = JournalFile::open(files, path)?;
-    let bytes = file.load(files, journal)?;
-    play_restored(streams, &file, bytes, journal);
-    Ok(())
+    journal: &'a mut [u8],
 }
 
-// The one argument.
-fn play_named<R: Files<File = File>>(files: &R, streams: Streams, name: &[u8], journal: &mut [u8]) {
-    match name {
-        b"--help" => help::print(streams.answers),
-        path => {
-            if let Err(refusal) = play_file(files, streams, path, journal) {
-                refusal.tell(streams.errors, path);
+impl Bench<'_> {
+    // What the file's bytes restore, and then the trace; where they are refused, what a person can do.
+    fn play_restored(&mut self, file: &JournalFile<'_>, bytes: usize)
+        requires { bytes ≤ length self.old.journal.now }
+    {
+        let restored = restore(&self.journal[..bytes]);
+        let number = restored.number;
+        let record = restored.record;
+        if let Err(reason) = say_restored(self.streams.answers, number, record) {
+            Stop::Unwritten(reason).tell(self.streams.errors);
+        } else if number == Answer::ACCEPTED {
+            run(restored.session, self.streams, Some(file), self.journal);
+        } else {
+            file.explain_bad(self.streams.errors, &self.journal[..bytes], record);
+        }
+    }
+
+    fn play_file<R: Files<File = File>>(&mut self, files: &R, path: &[u8]) -> Result<(), Refusal> {
+        let file = JournalFile::open(files, path)?;
+        let bytes = file.load(files, self.journal)?;
+        self.play_restored(&file, bytes);
+        Ok(())
+    }
+
+    // The one argument.
+    fn play_named<R: Files<File = File>>(&mut self, files: &R, name: &[u8]) {
+        match name {
+            b"--help" => help::print(self.streams.answers),
+            path => {
+                if let Err(refusal) = self.play_file(files, path) {
+                    refusal.tell(self.streams.errors, path);
+                }
             }
         }
     }
-}
 
-fn play_words<R: Env + Files<File = File>>(rt: &R, streams: Streams, journal: &mut [u8]) {
-    let mut name = [0u8; 4096];
-    match (rt.arg(1, &mut name), rt.arg(2, &mut [])) {
-        (Err(FillError::NotPresent), _) => run(Session::fresh(), streams, None, journal),
-        (Ok(len), Err(FillError::NotPresent)) => play_named(rt, streams, &name[..len], journal),
-        _ => help::expected(streams.errors),
+    fn play_words<R: Env + Files<File = File>>(&mut self, rt: &R) {
+        let mut name = [0u8; 4096];
+        match (rt.arg(1, &mut name), rt.arg(2, &mut [])) {
+            (Err(FillError::NotPresent), _) => run(
+                Session::fresh(),
+                self.streams,
+                None,
+                self.journal,
+            ),
+            (Ok(len), Err(FillError::NotPresent)) => self.play_named(rt, &name[..len]),
+            _ => help::expected(self.streams.errors),
+        }
     }
 }
 
@@ -91,7 +101,11 @@ fn play_words<R: Env + Files<File = File>>(rt: &R, streams: Streams, journal: &m
 #[inline(never)]
 fn work(rt: &HostRuntime, streams: Streams) {
     let mut journal = memory();
-    play_words(rt, streams, &mut journal);
+    let mut bench = Bench {
+        streams,
+        journal: &mut journal,
+    };
+    bench.play_words(rt);
 }
 
 fn main(rt: HostRuntime) {

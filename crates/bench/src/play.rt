@@ -48,7 +48,8 @@ impl Stop {
     }
 }
 
-// A trace as far as it was read. What is not yet played stands from `next` to `end`.
+// A trace as far as it was read. What is not yet played stands from `next` to `end`: two places beside the input, since a read goes straight
+// into the rest of it, and there is no heap.
 #[derive(Drop)]
 struct Trace<'a> {
     stdin: Stdin,
@@ -58,7 +59,8 @@ struct Trace<'a> {
     ghost within: { (next ≤ end) × (end ≤ length input.now) },
 }
 
-// A line of a trace. What no newline ended was cut short: it is answered, and not played.
+// A line of a trace. What no newline ended was cut short: it is answered, and not played. Parsing asks for the
+// bytes and for whether they are whole (`parse_line`), so that an enum would only be taken apart into the two.
 #[derive(Clone, Copy)]
 struct Line<'a> {
     bytes: &'a [u8],
@@ -129,6 +131,7 @@ fn play(
     let mut session = start;
     // At the start all of the journal is lent.
     let mut lent = journal.len();
+    // As in `next`, a proved loop has to end: a count that no run uses up.
     for _ in 0..u64::MAX {
         let line = trace.next(answers)?;
         let whole = line.whole;

@@ -1,6 +1,7 @@
 // How far the stack may grow: past that the system kills the program, and nothing says why.
 use input::read_full;
 use input::says::{say, say_number};
+use requests::words::number_of;
 use std::fs;
 use std::fs::File;
 use std::io::Stderr;
@@ -16,27 +17,14 @@ const STACK: &[u8] = b"Max stack size";
 
 // What stands behind these words, where a text has them.
 fn behind<'a>(text: &'a [u8], words: &[u8]) -> Option<&'a [u8]> {
-    for at in 0..text.len() {
-        let rest = text[at..].strip_prefix(words);
-        if rest.is_some() {
-            return rest;
-        }
-    }
-    None
+    (0..text.len()).find_map(|at| text[at..].strip_prefix(words))
 }
 
-// The number that comes next, behind blanks; as much as there is where none does.
-fn number_from(text: &[u8]) -> u64 {
-    let mut number: Option<u64> = None;
-    for byte in text {
-        if byte.is_ascii_digit() {
-            let digit = u64::from(*byte - b'0');
-            number = Some(number.unwrap_or(0).saturating_mul(10).saturating_add(digit));
-        } else if number.is_some() || *byte != b' ' {
-            break;
-        }
-    }
-    number.unwrap_or(u64::MAX)
+// The number that comes next, behind blanks, where one does that 64 bits hold.
+fn number_from(text: &[u8]) -> Option<u64> {
+    let mut words = text.split(|byte| *byte == b' ');
+    let word = words.find(|word| !word.is_empty())?;
+    number_of(word.split(|byte| !byte.is_ascii_digit()).next()?)
 }
 
 // What the system lets the stack grow to, in bytes; as much as there is where it does not say.
@@ -46,7 +34,9 @@ fn stack_limit<R: Files<File = File>>(files: &R) -> u64 {
     };
     let mut text = [0u8; 4096];
     let count = read_full(&mut limits, &mut text).unwrap_or_else(|broken| broken.count);
-    behind(&text[..count], STACK).map_or(u64::MAX, number_from)
+    behind(&text[..count], STACK)
+        .and_then(number_from)
+        .unwrap_or(u64::MAX)
 }
 
 // Whether the stack may grow as far as is needed; where not, standard error says what to do.

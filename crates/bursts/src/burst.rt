@@ -11,7 +11,8 @@ use judging::answers::Answer;
 use scan::timings::Timings;
 use session::state::Session;
 
-// How many were accepted, and the first refusal; its number is 0 if none was refused.
+// How many were accepted, and the first refusal; its number is 0 if none was refused. It crosses to C as it is, and each call for C puts
+// it together: a function between them would hold the state once more.
 #[repr(C)]
 #[derive(Drop)]
 pub struct Burst {
@@ -20,7 +21,7 @@ pub struct Burst {
     pub answer: Answer,
 }
 
-// The same beside a state that is changed in place.
+// The same beside a state that is changed in place. Every caller hands on the number, 0 too.
 #[derive(Drop)]
 pub struct Ended {
     pub count: u64,
@@ -32,12 +33,13 @@ pub fn take_offers<I: Iterator<Item = Offer> + Drop>(
     journal: &mut [u8],
     offers: I,
 ) -> Ended
-    requires can { I.can_next offers }
-    requires ends { IsFinite (I.remaining offers) }
-    requires few { size (I.remaining offers) < 2 ^ 64 }
+    requires goes_on { I.can_next offers }
+    requires finite { IsFinite (I.remaining offers) }
+    requires counted { size (I.remaining offers) < 2 ^ 64 }
     ensures { (os : List Offer) → AlwaysYields I.next_gives (λ o. o) offers os → Bursts session.old journal.old os result.count (reply_in result.answer) session.new journal.new }
 {
     let timings = Timings::of(&session.terms);
+    // Counted, as the count is an answer.
     let mut count = 0;
     for offer in offers {
         if let Err(refusal) = take_offer(session, &timings, journal, offer) {

@@ -1,4 +1,5 @@
 // A burst whose commands stand in a lent slice of structs: any numbers, so that lines 2 to 4 are reached.
+// It ends as `offer_pieces` does: a function for both would hold the state once more.
 ghost use Rattle.judging.specs.Judged.{reply_in};
 ghost use Rattle.statements.specs.Bursts.{Bursts};
 

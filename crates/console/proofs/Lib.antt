@@ -2,4 +2,4 @@ mod Examples
 mod OutputLaws
 mod SayLaws
 mod RespondLaws
-mod BurstSaid
+mod CommandLaws

@@ -3,22 +3,21 @@ use mathlib.Core.Path.{◌≡◌, refl, sym, ◌∙◌, ap, subst}
 use mathlib.Core.List.{List, [], ◌∷◌, ◌++◌}
 use Prim.Native.Nat.{ℕ, zero, suc, ◌+◌, ◌-◌, ◌≤◌, ◌<◌}
 use native.Mathlib.Omega.{arith}
-use lib.ListN.{length, take, drop, length-drop, take-append-drop}
+use lib.ListN.{length, take, drop, length-drop}
 use lib.Seq.{length-take-le}
 use denote.Param.Members.{Mut, Called}
 use Rattle.std.specs.List.{slice_index_or}
 use Rattle.std.specs.Array.{IsFromFnResultFrom, IsFromFnResult}
 use Rattle.history.specs.Answers.{Reply, Verdict}
 use Rattle.session.specs.declared.state.Session.{Session}
-use Rattle.statements.specs.Exact.{offer_in, Left, RestoredIn, RestoreLeft}
+use Rattle.statements.specs.Bursts.{Burst, ended, over}
+use Rattle.statements.specs.Exact.{Left, RestoredIn, RestoreLeft}
 use Rattle.requests.specs.declared.forms.Request.{Request}
 use Rattle.requests.specs.declared.forms.Request.TheVariants as asks
 use Rattle.console.specs.declared.say.Said.{Said}
 use Rattle.console.specs.declared.respond.Response.{Response}
-use Rattle.console.specs.declared.respond.Console.{Console}
-use Rattle.console.specs.Say.{full, said_of, with_bytes}
-use Rattle.console.specs.Console.{Performs, OffersLent}
-use Rattle.console.specs.Respond.{outcome_in, offer_at, room, at, each_from, prints, says, called, restores, Responds}
+use Rattle.console.specs.Say.{burst_numbers, said_of, with_bytes}
+use Rattle.console.specs.Respond.{at, each_from, prints, says, called, bursts, restores, Responds}
 
 abbrev pub response_of : Session → ℕ → Said → Response
 response_of s lent a = record { session = s; lent = lent; said = a }
@@ -42,18 +41,9 @@ pub called_is : (q : Request) (numbers : Reply → List ℕ) (v : Verdict) (befo
     → Responds (called q numbers v before lent j) (response_of next lent a) (bytes ++ drop lent j)
 called_is q numbers v before next lent j reply bytes a left e = rw (← left.answer, ← left.state, ← left.written) (says_is q (numbers reply) next lent (bytes ++ drop lent j) a e)
 
--- a command's, offered to the lent part
-pub offered_is : (before after : Console) (ns : List ℕ) (r : Reply) (a : Said) → OffersLent before (offer_at ns 0) r after → a ≡ said_of asks.Offer (full r) → Performs asks.Offer before ns after a
-unfolding outcome_in
-offered_is before after ns r a o e =
-    let j = before.journal.now in
-    let bytes = after.journal.now in
-    let whole : take before.lent bytes ++ drop before.lent j ≡ bytes = rw (← o.kept) (take-append-drop before.lent bytes) in
-    let seen = called_is asks.Offer full _ before.session after.session before.lent j r (take before.lent bytes) a o.offered.exact e in
-    record {
-      responds = rw o.lent (subst (λ (b : List ℕ). Responds (called asks.Offer full (offer_in (room before.lent j) before.session (at ns 0) (at ns 1) (at ns 2) (at ns 3)) before.session before.lent j) (response_of after.session before.lent a) b) whole seen);
-      same = o.same;
-    }
+pub bursts_is : (b : Burst Session) (n : ℕ) (reply : Reply) (next : Session) (lent : ℕ) (j bytes : List ℕ) (a : Said) → ended n reply (over next bytes) ≡ b → a ≡ said_of asks.Burst (burst_numbers n reply)
+    → Responds (bursts b lent j) (response_of next lent a) (bytes ++ drop lent j)
+bursts_is b n reply next lent j bytes a is e = rw (← is) (says_is asks.Burst (burst_numbers n reply) next lent (bytes ++ drop lent j) a e)
 
 pub restores_is : (v : RestoredIn) (next : Session) (lent : ℕ) (j : List ℕ) (number at : ℕ) (a : Said) → RestoreLeft v number at next → a ≡ said_of asks.Restore (number ∷ at ∷ []) → Responds (restores v lent j) (response_of next lent a) j
 restores_is v next lent j number at a left e = rw (← left.answer, ← left.beside, ← left.state) (says_is asks.Restore (number ∷ at ∷ []) next lent j a e)

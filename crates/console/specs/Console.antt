@@ -1,8 +1,5 @@
 -- What a step of a console does, which is changed in place.
-use Rattle.std.specs.Prelude.{◌≡◌, List, ℕ, take, drop}
-use Rattle.history.specs.Answers.{Reply}
-use Rattle.journal.specs.declared.records.Offer.{Offer}
-use Rattle.statements.specs.Bursts.{OffersOne}
+use Rattle.std.specs.Prelude.{◌≡◌, List, ℕ}
 use Rattle.requests.specs.declared.forms.Request.{Request}
 use Rattle.console.specs.declared.respond.Console.{Console}
 use Rattle.console.specs.declared.respond.Response.{Response}
@@ -20,10 +17,3 @@ pub record Performs (q : Request) (before : Console) (ns : List ℕ) (c : Consol
 -- a question leaves all as it was
 abbrev pub Answers : Request → Console → List ℕ → Said → Type 0
 Answers q c ns said = Responds (outcome_in c.session c.journal.now c.lent q ns) (response_by c said) c.journal.now
-
--- a command offered to the lent part of the journal
-pub record OffersLent (before : Console) (o : Offer) (r : Reply) (c : Console) : Type 0 where
-  pub offered : OffersOne before.session (take before.lent before.journal.now) o r c.session (take before.lent c.journal.now)
-  pub lent : c.lent ≡ before.lent
-  pub kept : drop before.lent c.journal.now ≡ drop before.lent before.journal.now
-  pub same : c.journal.ghost_name ≡ before.journal.ghost_name

@@ -1,4 +1,4 @@
-// The console's text language: lines taken out of what was read, requests taken out of lines, and the answers as text.
+// The console's text language: lines taken out of what was read, what a request comes to, and the answers as text.
 #![tactic(auto)]
 
 pub mod lines;

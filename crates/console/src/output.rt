@@ -3,6 +3,7 @@ ghost use Rattle.text.specs.Lines.{Put};
 ghost use Rattle.console.specs.Output.{hex_text};
 
 // Bytes as lower-case hexadecimal into a buffer, and the place behind them; where there is no room for all of them, nothing.
+// `put_bytes` asks for its room by the same lines: a function for both would have to lend the part out, or hand back its end.
 pub fn put_hex(out: &mut [u8], at: usize, bytes: &[u8]) -> usize
     ensures { Put (hex_text bytes.now) at out.old out.new result }
 {

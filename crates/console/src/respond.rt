@@ -3,16 +3,20 @@ ghost use Rattle.std.specs.Prelude.{◌≡◌, ℕ, ◌≤◌, List, length};
 ghost use Rattle.requests.specs.declared.forms.Request.TheVariants as asks;
 ghost use Rattle.requests.specs.Requests.{asking_of};
 ghost use Rattle.datasheet.specs.Sheet.{picoseconds};
-ghost use Rattle.judging.specs.Judged.{reply_in};
 ghost use Rattle.console.specs.Respond.{at, each_from, gap_from, offer_at, outcome, Responds};
 
 use crate::say::{Said, answer_said, burst_said, gaps_said, numbered, status_said, with_bytes};
-use checker::calls::{earliest, offer, open_session, status, stretch_place, take_back};
+use bursts::burst::{Ended, take_offers};
+use checker::calls::{
+    answer_for, earliest, number_for, status, stretch_place, take_last_back, take_offer,
+    take_opening,
+};
 use datasheet::sheet::{self, Picoseconds};
-use judging::answers::Answer;
+use journal::records::Offer;
 use requests::forms::Request;
 use requests::requests::Asked;
 use restoring::restore::restore;
+use scan::timings::Timings;
 use session::state::Session;
 use std::array;
 use timing::clocks::{ControllerCycles, DramCycles};
@@ -55,14 +59,27 @@ fn times_of(numbers: &[u64]) -> [Picoseconds; 20]
     array::from_fn(|i| Picoseconds(number_at(numbers, 1 + i)))
 }
 
+// A command of a burst, or one by itself.
+fn offer_of(command: &[u64; 4]) -> Offer
+    ensures { result ≡ offer_at command.now 0 }
+{
+    let [kind, rank, bank, cycle] = *command;
+    Offer {
+        kind,
+        rank,
+        bank,
+        cycle: ControllerCycles(cycle),
+    }
+}
+
 impl Console<'_> {
-    ghost use Rattle.console.specs.Console.{Answers, OffersLent, Performs};
+    ghost use Rattle.console.specs.Console.{Answers, Performs};
 
     fn open(&mut self, numbers: &[u64]) -> Said
         ensures { Performs asks.Open self.old numbers.now self.new result }
     {
-        let done = open_session(
-            self.session,
+        let done = take_opening(
+            &mut self.session,
             &mut self.journal[..self.lent],
             number_at(numbers, 0),
             number_at(numbers, 1),
@@ -70,46 +87,28 @@ impl Console<'_> {
             (number_at(numbers, 3) % 4294967296) as u32,
             gaps_of(numbers),
         );
-        self.session = done.session;
-        numbered(Request::Open, &[done.number])
-    }
-
-    fn offer_one(&mut self, command: [u64; 4]) -> Answer
-        ensures { OffersLent self.old (offer_at command 0) (reply_in result) self.new }
-    {
-        let [kind, rank, bank, cycle] = command;
-        let lent = &mut self.journal[..self.lent];
-        let done = offer(
-            self.session,
-            lent,
-            kind,
-            rank,
-            bank,
-            ControllerCycles(cycle),
-        );
-        self.session = done.session;
-        done.answer
+        numbered(Request::Open, &[number_for(done)])
     }
 
     fn offer(&mut self, numbers: &[u64]) -> Said
         ensures { Performs asks.Offer self.old numbers.now self.new result }
     {
-        let command = array::from_fn(|i| number_at(numbers, i));
-        answer_said(Request::Offer, self.offer_one(command))
+        let offer = offer_of(&array::from_fn(|i| number_at(numbers, i)));
+        let timings = Timings::of(&self.session.terms);
+        let lent = &mut self.journal[..self.lent];
+        let done = take_offer(&mut self.session, &timings, lent, offer);
+        let answer = answer_for(done, offer.cycle, &self.session.terms);
+        answer_said(Request::Offer, answer)
     }
 
-    // The commands of a burst, each offered by itself.
     fn burst(&mut self, numbers: &[u64]) -> Said
         ensures { Performs asks.Burst self.old numbers.now self.new result }
     {
         let (commands, _) = numbers.as_chunks::<4>();
-        for (accepted, command) in commands.iter().enumerate() {
-            let answer = self.offer_one(*command);
-            if answer.number != Answer::ACCEPTED {
-                return burst_said(accepted as u64, answer);
-            }
-        }
-        burst_said(commands.len() as u64, Answer::plain(Answer::ACCEPTED))
+        let offers = commands.iter().map(offer_of);
+        let lent = &mut self.journal[..self.lent];
+        let Ended { count, answer } = take_offers(&mut self.session, lent, offers);
+        burst_said(count, answer)
     }
 
     fn ask(&self, numbers: &[u64]) -> Said
@@ -124,9 +123,8 @@ impl Console<'_> {
     fn back(&mut self) -> Said
         ensures { (ns : List ℕ) → Performs asks.Back self.old ns self.new result }
     {
-        let done = take_back(self.session, &mut self.journal[..self.lent]);
-        self.session = done.session;
-        numbered(Request::Back, &[done.number])
+        let done = take_last_back(&mut self.session, &mut self.journal[..self.lent]);
+        numbered(Request::Back, &[number_for(done)])
     }
 
     fn status(&self) -> Said

@@ -5,7 +5,7 @@ ghost use Rattle.datasheet.specs.Sheet.{last_tck, tck_in_range, judged_at, zeros
 use timing::clocks::DramCycles;
 
 #[repr(C)]
-#[derive(Clone, Copy)]
+#[derive(Clone, Copy, PartialEq, PartialOrd)]
 pub struct Picoseconds(pub u64);
 
 // What is wrong with a sheet: its tCK, or the time of the lowest gap number that has a fault.
@@ -25,14 +25,14 @@ pub struct GapsAnswer {
 }
 
 impl Picoseconds {
-    const LAST_TCK: u64 = 1000000;
+    const LAST_TCK: Picoseconds = Picoseconds(1000000);
 
-    const TIME_BOUND: u64 = 4294967296;
+    const TIME_BOUND: Picoseconds = Picoseconds(4294967296);
 
     fn tck_in_range(self) -> bool
         ensures { result ≡ tck_in_range self }
     {
-        (1..=Picoseconds::LAST_TCK).contains(&self.0)
+        (Picoseconds(1)..=Picoseconds::LAST_TCK).contains(&self)
     }
 
     // The fewest DRAM cycles that last at least this time, or none: a time out of range or a gap above 65,535 is a fault.
@@ -40,7 +40,7 @@ impl Picoseconds {
         requires { (0 < tck.0) × (tck.0 ≤ last_tck) }
         ensures { result ≡ judged_at tck self }
     {
-        if Picoseconds::TIME_BOUND <= self.0 {
+        if Picoseconds::TIME_BOUND <= self {
             return None;
         }
         let gap = u16::try_from(self.0.div_ceil(tck.0)).ok()?;

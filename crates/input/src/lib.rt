@@ -1,7 +1,7 @@
 // Standard input and files read so that a failed read is told from the end. A read that a signal interrupts is made again.
 #![tactic(auto)]
 
-ghost use Rattle.std.specs.Prelude.{MatchResult};
+ghost use Rattle.std.specs.Prelude.{◌≡◌, MatchResult};
 ghost use Rattle.std.specs.Io.{ReadsAtMost};
 ghost use Rattle.input.specs.Counts.{IsPrefixLen};
 
@@ -26,7 +26,10 @@ pub struct Reader<'a> {
 }
 
 impl<'a> Reader<'a> {
-    pub fn new(file: &'a File) -> Reader<'a> {
+    // From the front on.
+    pub fn new(file: &'a File) -> Reader<'a>
+        ensures { (result.file.now ≡ file.now) × (result.place ≡ 0) }
+    {
         Reader { file, place: 0 }
     }
 }
@@ -57,6 +60,7 @@ pub fn read_some<R: Read>(stream: &mut R, buf: &mut [u8]) -> Result<usize>
 pub fn read_full<R: Read>(stream: &mut R, buf: &mut [u8]) -> std::result::Result<usize, Broken>
     ensures { MatchResult result (λ count. IsPrefixLen count buf.new) (λ broken. IsPrefixLen broken.count buf.new) }
 {
+    // A count, and not the rest of the buffer: a failed read has to tell how much came before it.
     let mut count = 0;
     while count < buf.len() {
         match read_some(stream, &mut buf[count..]) {

@@ -3,22 +3,21 @@ use mathlib.Core.Path.{◌≡◌, refl, sym, ◌∙◌, ap}
 use mathlib.Core.Bool.{Bool, true, false, cond, not, ◌&&◌, and-true}
 use mathlib.Core.Logic.{◌⊎◌, inl, inr}
 use denote.Ref.{Bor}
-use mathlib.Core.List.{List, [], ◌∷◌, ◌++◌, map, append_assoc, append-nil}
-use Prim.Native.Nat.{ℕ, zero, suc, ◌+◌, ◌-◌, ◌≤◌, ◌<◌}
+use mathlib.Core.List.{List, [], ◌∷◌, ◌++◌, append_assoc, append-nil}
+use Prim.Native.Nat.{ℕ, suc, ◌+◌, ◌-◌, ◌≤◌, ◌<◌}
 use native.Mathlib.Numerals.{add-one}
 use native.Mathlib.Omega.{arith}
 use lib.ListN.{length, take, drop, get_or, set, drop_of_length-le}
 use lib.Seq.{drop-cons, take-suc-set}
 use lib.Dec.{eqb}
 use borrow.Author.Tests.{eq-eqb, ne_eqb, eqb-true, eqb-false, lt-ltb, le-ltb}
-use Rattle.std.specs.Prelude.{slice_get, Option, Some, None}
+use Rattle.std.specs.Prelude.{slice_get, nat_lt, Option, Some, None}
 use Rattle.std.specs.List.{filter, find, slice_split, onto_first}
 use Rattle.std.specs.Option.{MatchOption, option_map, unwrap_or}
 use Rattle.std.specs.Str.{bytes_eq}
-use Rattle.std.proofs.lemmas.List.Quantifiers.{position-Some}
-use Rattle.timing.specs.declared.kinds.CommandKind.TheVariants.{Act}
-use Rattle.timing.specs.Kinds.{code_of}
-use Rattle.journal.specs.Listing.{name_of}
+use Rattle.timing.specs.declared.kinds.CommandKind.{CommandKind}
+use Rattle.timing.specs.declared.kinds.CommandKind.TheVariants.{Act, Rd, Wr, Prepb, Preab, Refab, Refpb}
+use Rattle.timing.specs.Kinds.{code_of, name_of}
 use Rattle.requests.specs.declared.forms.Form.{Form}
 use Rattle.requests.specs.declared.forms.Request.{Request}
 use Rattle.requests.specs.Words.{is_blank, is_empty, words}
@@ -38,22 +37,24 @@ pub option_map_same : {X : Type 0} (o : Option X) → option_map (λ x. x) o ≡
 option_map_same None = refl
 option_map_same (Some x) = refl
 
--- a kind's code number by the place of its name
-code_of_lem : (k : ℕ) → k < 7 → k + 1 ≡ code_of (get_or kinds k Act)
-code_of_lem zero low = refl
-code_of_lem (suc zero) low = refl
-code_of_lem (suc (suc zero)) low = refl
-code_of_lem (suc (suc (suc zero))) low = refl
-code_of_lem (suc (suc (suc (suc zero)))) low = refl
-code_of_lem (suc (suc (suc (suc (suc zero))))) low = refl
-code_of_lem (suc (suc (suc (suc (suc (suc zero)))))) low = refl
-code_of_lem (suc (suc (suc (suc (suc (suc (suc k))))))) low = absurd (omega arith)
+-- a kind that is found by its name is the one at the name's place
+at_place : (a b c d e f g : Bool) → let n = cond (not a) (1 + cond (not b) (1 + cond (not c) (1 + cond (not d) (1 + cond (not e) (1 + cond (not f) (1 + cond (not g) 1 0) 0) 0) 0) 0) 0) 0 in
+    option_map code_of (cond a (Some Act) (cond b (Some Rd) (cond c (Some Wr) (cond d (Some Prepb) (cond e (Some Preab) (cond f (Some Refab) (cond g (Some Refpb) None)))))))
+    ≡ option_map (λ k. code_of (get_or kinds k Act)) (cond (nat_lt n 7) (Some n) None)
+at_place true b c d e f g = refl
+at_place false true c d e f g = refl
+at_place false false true d e f g = refl
+at_place false false false true e f g = refl
+at_place false false false false true f g = refl
+at_place false false false false false true g = refl
+at_place false false false false false false true = refl
+at_place false false false false false false false = refl
 
-pub kind_is : (word : List ℕ) (k : ℕ) → kind_index word ≡ Some k → Some (k + 1) ≡ kind_number word
+pub kind_found : (word : List ℕ) → option_map code_of (find (λ k. bytes_eq (name_of k) word) kinds) ≡ kind_number word
 unfolding kind_index
-kind_is word k e =
-    let low = (position-Some (λ w. bytes_eq w word) (map name_of kinds) k [] e).0 in
-    rw (e, code_of_lem k low)
+kind_found word =
+    let is : CommandKind → Bool = λ k. bytes_eq (name_of k) word in
+    at_place (is Act) (is Rd) (is Wr) (is Prepb) (is Preab) (is Refab) (is Refpb)
 
 some_word : (b : ℕ) (bs : List ℕ) → is_empty (b ∷ bs) ≡ false
 some_word b bs = ne_eqb (length (b ∷ bs)) 0 (λ e. absurd (omega arith))

@@ -5,8 +5,7 @@ use Rattle.std.specs.Option.{option_map, option_or, unwrap_or}
 use Rattle.std.specs.Str.{bytes_eq}
 use Rattle.timing.specs.declared.kinds.CommandKind.{CommandKind}
 use Rattle.timing.specs.declared.kinds.CommandKind.TheVariants.{Act, Rd, Wr, Prepb, Preab, Refab, Refpb}
-use Rattle.timing.specs.Kinds.{code_of}
-use Rattle.journal.specs.Listing.{name_of}
+use Rattle.timing.specs.Kinds.{code_of, name_of}
 use Rattle.requests.specs.declared.forms.Form.{Form}
 use Rattle.requests.specs.declared.forms.Place.{Place}
 use Rattle.requests.specs.declared.forms.Place.TheVariants.{Kind, UpTo}

@@ -7,6 +7,7 @@ ghost use Rattle.requests.specs.Requests.{number_at, read_from, kind_number, nam
 
 use crate::forms::{Form, Place, Request};
 use crate::words::{is_blank, number_of};
+use timing::kinds::CommandKind;
 
 // The numbers stand in the array that was lent.
 #[derive(Clone, Copy)]
@@ -17,14 +18,12 @@ pub struct Asked<'a> {
 
 const MAX_LINE: usize = 4096;
 
-// The kinds' names, in the order of their code numbers from 1 on.
-const KINDS: [&[u8]; 7] = [b"ACT", b"RD", b"WR", b"PREPB", b"PREAB", b"REFAB", b"REFPB"];
-
 fn kind_number(word: &[u8]) -> Option<u64>
     ensures { result ≡ kind_number word.now }
 {
-    let place = KINDS.iter().position(|name| *name == word)?;
-    Some(place as u64 + 1)
+    let mut kinds = CommandKind::ALL.iter().copied();
+    let kind = kinds.find(|kind| kind.name() == word)?;
+    Some(kind.number())
 }
 
 // A word at its place: a number up to the most, or a kind's name.
@@ -53,6 +52,7 @@ fn read_numbers<'a>(line: &[u8], form: Form, numbers: &'a mut [u64; 4096]) -> Op
     let words = line
         .split(|byte| is_blank(*byte))
         .filter(|word| !word.is_empty());
+    // Counted, as the length handed back.
     let mut count = 0;
     for word in words.skip(1) {
         numbers[count] = number_at(word, form.place_at(count))?;

@@ -11,6 +11,7 @@ use Rattle.timing.specs.Rules.{nearness, class_for, table_gap, kind_at}
 use Rattle.session.specs.declared.stamps.Stamp.{Stamp}
 use Rattle.session.specs.declared.state.Progress.{Progress}
 use Rattle.session.specs.declared.state.Terms.{Terms}
+use Rattle.session.specs.declared.state.Session.{Session}
 use Rattle.session.specs.Stamps.{read_back}
 use Rattle.session.specs.State.{rank_slots, stamp_at}
 use Rattle.scan.specs.declared.timings.Timings.{Timings}
@@ -93,6 +94,10 @@ near_ask last row b own mate beside others =
 pub record Lent (timings : Timings) (terms : Terms) : Type 0 where
   pub opening_is : timings.opening ≡ terms.opening
   pub steps_are : timings.steps ≡ gap_steps terms.rounded
+
+-- what is asked of a command by some timings: by the rank's rows, and beside them
+abbrev pub asked_by : Timings → Session → Command → ℕ
+asked_by t s c = lent_ask t.steps s.last t.opening c.kind (spot_of c) (known_ask t.steps s.progress c)
 
 -- the same asks, of a question
 abbrev pub bank_asked : Question → CommandKind → ℕ → ℕ

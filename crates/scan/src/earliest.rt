@@ -5,10 +5,11 @@ ghost use Rattle.timing.specs.declared.kinds.CommandKind.TheVariants.{Act};
 ghost use Rattle.timing.specs.Kinds.{same_kind};
 ghost use Rattle.session.specs.Stamps.{read_back};
 ghost use Rattle.scan.specs.Scan.{ask_of, unpacked, largest_ask, ask_in};
-ghost use Rattle.scan.specs.Rows.{spot_of, fourth_for, known_ask, largest_asked, Lent};
+ghost use Rattle.scan.specs.Rows.{spot_of, fourth_for, known_ask, largest_asked, asked_by, Lent};
 
 use crate::rows::ask_of;
 use crate::timings::{Kept, Question, Step, Timings};
+use session::placed::Placed;
 use session::stamps::Stamp;
 use session::state::{Progress, RANK_SLOTS, Session};
 use timing::clocks::ControllerCycles;
@@ -21,7 +22,8 @@ pub struct Earliest {
     pub gap: u64,
 }
 
-// The fourth activate of the command's rank.
+// The fourth activate of the command's rank. Where one is pushed out the slot tells the rank: a function for both would take a bool that
+// says neither.
 fn fourth_for(activates: &[Stamp; 8], command: Command) -> Stamp
     ensures { result ≡ fourth_for activates.now command }
 {
@@ -51,11 +53,11 @@ fn known_ask(timings: &Timings, progress: &Progress, command: Command) -> u64
     floor.max(four(fourth, timings.step_of_four(), command.kind))
 }
 
-// The bank's spot in the first row of its rank.
+// The bank's spot in the first row of its rank. A slot has the kind's row too, and reduces the bank.
 fn spot_of(command: Command) -> usize
     ensures { result ≡ spot_of command }
 {
-    command.rank as usize % 2 * RANK_SLOTS + command.bank as usize
+    usize::from(command.rank) % 2 * RANK_SLOTS + usize::from(command.bank)
 }
 
 impl Question<'_> {
@@ -71,12 +73,12 @@ impl Question<'_> {
     }
 }
 
-// Of a command of the session.
-pub fn earliest_of(session: &Session, timings: &Timings, command: Command) -> Earliest
-    requires lent { Lent timings.now session.now.terms }
-    requires bank { command.bank < 16 }
-    ensures { ask_in result ≡ unpacked (largest_ask session.now.last session.now.terms session.now.progress command) }
+// Of a command of the session, by any timings; by its own it is what its arrays ask for.
+pub fn earliest_of(session: &Session, timings: &Timings, placed: Placed) -> Earliest
+    ensures rows { ask_in result ≡ unpacked (asked_by timings.now session.now placed.command) }
+    ensures lent { Lent timings.now session.now.terms → ask_in result ≡ unpacked (largest_ask session.now.last session.now.terms session.now.progress placed.command) }
 {
+    let command = placed.command;
     let question = Question {
         timings,
         last: &session.last,

@@ -16,7 +16,6 @@ pub(crate) fn ask_of(kept: Kept, step: Step) -> u64
 
 // The other bank of a bank's pair.
 fn mate_of(bank: usize) -> usize
-    requires { bank < 16 }
     ensures { result ≡ mate_of bank }
 {
     bank / 2 * 2 + (1 - bank % 2)
@@ -24,7 +23,6 @@ fn mate_of(bank: usize) -> usize
 
 // The other pair of its four.
 fn pair_beside(bank: usize) -> usize
-    requires { bank < 16 }
     ensures { result ≡ pair_beside bank }
 {
     bank / 4 * 2 + (1 - bank / 2 % 2)

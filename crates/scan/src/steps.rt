@@ -26,8 +26,8 @@ fn gap_steps(rounded: &[ControllerCycles; 20]) -> [u64; 21]
     ensures { result ≡ gap_steps rounded.now }
 {
     let mut steps = [0u64; 21];
-    for n in 0..21 {
-        steps[n] = step_of(rounded[(n + 19) % 20], n);
+    for (n, step) in steps.iter_mut().enumerate() {
+        *step = step_of(rounded[(n + 19) % 20], n);
     }
     steps
 }

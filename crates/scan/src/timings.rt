@@ -1,4 +1,4 @@
-// What is lent to the scan. A session's timings are made ready once for a question, a burst, or an opening in a restore.
+// What is lent to the scan. A session's timings are made ready once for a question, an offer, a burst, or an opening in a restore.
 ghost use Rattle.std.specs.Prelude.{◌≡◌, ℕ, ◌+◌, ◌<◌, ◌≤◌, get_or};
 ghost use Rattle.timing.specs.Table.{layer_of};
 
@@ -18,7 +18,7 @@ pub struct Timings {
     ghost no_step: { get_or steps 0 0 ≡ 0 },
 }
 
-// What a gap adds to a stamp less 1 in an ask; 0 where there is none.
+// What a gap adds to a stamp less 1 in an ask; 0 where there is none: a maximum takes it as it is, an Option would be unpacked at each.
 #[derive(Clone, Copy)]
 pub struct Step {
     pub size: u64,

@@ -1,3 +1,4 @@
+pub mod FreshLaws
 pub mod RepLaws
 pub mod BitLaws
 pub mod BankLaws

@@ -1,10 +1,11 @@
 // Which banks are open, in one number: a bit for each bank, the sixteen of rank 0 first. What goes by a command's kind is a choice between
-// numbers, of which the compiler makes no branch.
+// numbers, of which the compiler makes no branch: with a branch for each kind a restore took 1.06 of it.
 ghost use Rattle.std.specs.Prelude.{◌≡◌, cond, ◌*◌, ◌^◌, ◌≤◌, ◌<◌, eqb};
 ghost use Rattle.timing.specs.Banks.{banks};
 ghost use Rattle.session.specs.State.{first_bit, banks_after};
 ghost use Rattle.session.specs.Banks.{looked_at, wanted, bit_for, wrong_by};
 
+use crate::placed::Placed;
 use crate::slots::Slot;
 use crate::state::RANK_SLOTS;
 use timing::editions::BANK_STATES;
@@ -77,22 +78,21 @@ fn bit_for(kind: CommandKind, rank: u8, bank: u8) -> u32
     requires { bank < banks }
     ensures { (result ≡ bit_for kind rank bank) × (result < 32) }
 {
-    let first = rank as u32 % 2 * 16;
+    let first = u32::from(rank) % 2 * 16;
     if all_banks(kind) {
         return first;
     }
-    first + bank as u32
+    first + u32::from(bank)
 }
 
 // Line 12, from edition 2 on.
-pub fn wrong_bank(up: u32, opening: Opening, command: Command) -> bool
-    requires { command.bank < banks }
-    ensures { result ≡ wrong_by up opening command }
+pub fn wrong_bank(up: u32, opening: Opening, placed: Placed) -> bool
+    ensures { result ≡ wrong_by up opening placed.command }
 {
     if opening.edition < BANK_STATES {
         return false;
     }
-    let kind = command.kind;
-    let bit = bit_for(kind, command.rank, command.bank);
+    let Command { kind, rank, bank } = placed.command;
+    let bit = bit_for(kind, rank, bank);
     (up >> bit) & looked_at(kind) != wanted(kind)
 }

@@ -3,6 +3,7 @@
 
 pub mod banks;
 pub mod changes;
+pub mod placed;
 pub mod slots;
 pub mod stamps;
 pub mod state;

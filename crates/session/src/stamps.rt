@@ -6,7 +6,7 @@ ghost use Rattle.session.specs.Stamps.{stamp, stored, read_back};
 use timing::clocks::ControllerCycles;
 
 #[repr(C)]
-#[derive(Clone, Copy)]
+#[derive(Clone, Copy, Default)]
 pub struct Stamp(pub u64);
 
 const CYCLES: u64 = 1099511627776;

@@ -1,5 +1,5 @@
-// The state: what a session's answers go by, in arrays of a fixed size. The small numbers stand in two structs, which the steps below
-// the calls take by value; the two long arrays stand beside them, and who takes a command or takes one back stores into them in place.
+// The state: what a session's answers go by, in arrays of a fixed size. It crosses to C as it is, so that numbers stand for flags and for
+// none, and arrays beside each other. Of its small numbers some change with each record, the others only with an opening.
 ghost use Rattle.std.specs.Prelude.{◌≡◌};
 ghost use Rattle.session.specs.State.{fresh_state};
 
@@ -18,7 +18,7 @@ pub const MAX_DEPTH: usize = 64;
 // What a take-back must put back: the slot of the command taken back, the banks that were open before it, the stamp that stood at the
 // slot, the activate that it pushed out of the four, and the stamp of the survivor before it.
 #[repr(C)]
-#[derive(Clone, Copy)]
+#[derive(Clone, Copy, Default)]
 pub struct Entry {
     pub slot: u32,
     pub open_banks: u32,
@@ -29,7 +29,7 @@ pub struct Entry {
 
 // How far the session has come: what each record changes.
 #[repr(C)]
-#[derive(Clone, Copy)]
+#[derive(Clone, Copy, Default)]
 pub struct Progress {
     // The four latest activates of each rank, newest first.
     pub activates: [Stamp; 8],
@@ -47,7 +47,7 @@ pub struct Progress {
 
 // What the client gave: only an opening changes it.
 #[repr(C)]
-#[derive(Clone, Copy)]
+#[derive(Clone, Copy, Default)]
 pub struct Terms {
     // The twenty gaps in controller cycles, rounded once at the opening, and as they were given.
     pub rounded: [ControllerCycles; 20],
@@ -55,7 +55,7 @@ pub struct Terms {
     pub opening: Opening,
     // The record number of the opening.
     pub number: u32,
-    // 0: no session open.
+    // 0: no session open. It crosses to C as this number.
     pub is_open: u8,
 }
 
@@ -75,36 +75,10 @@ impl Session {
         ensures { result ≡ fresh_state }
     {
         Session {
-            last: [Stamp(0); SLOTS],
-            entries: [Entry {
-                slot: 0,
-                open_banks: 0,
-                earlier: Stamp(0),
-                pushed_out: Stamp(0),
-                latest: Stamp(0),
-            }; MAX_DEPTH],
-            progress: Progress {
-                activates: [Stamp(0); 8],
-                latest: Stamp(0),
-                position: 0,
-                survivors: 0,
-                depth: 0,
-                records: 0,
-                open_banks: 0,
-            },
-            terms: Terms {
-                rounded: [ControllerCycles(0); 20],
-                gaps: [DramCycles(0); 20],
-                opening: Opening {
-                    ratio: 0,
-                    ranks: 0,
-                    mode: 0,
-                    edition: 0,
-                    client: 0,
-                },
-                number: 0,
-                is_open: 0,
-            },
+            last: [Stamp::default(); SLOTS],
+            entries: [Entry::default(); MAX_DEPTH],
+            progress: Progress::default(),
+            terms: Terms::default(),
         }
     }
 }

@@ -192,16 +192,7 @@ module _ (s₀ : Session) (lent : List ℕ) (os : List Offer) where
           let moved : b.count + (n + 1) ≡ b.count + 1 + n = omega arith in
           rw (en, ea) (ap (λ (m : ℕ). ended m b.reply b.left) moved ∙ turn (accepted r x) e)
 
-      -- the command offered by itself: it stops, or goes on
-      pub bursting_stopped : {r : Reply} {next : Session} {after : List ℕ} → OffersOne s j o r next after → r.number ≢ 0
-          → (ended n r (over s j) ≡ burst_in (over s₀ lent) os) × (after ≡ j)
-      bursting_stopped {r} {next} {after} p some = go (here s j o) refl (here_numbered s j o) p.exact
-        where
-          go : (v : Verdict) → here s j o ≡ v → Numbered o.cycle.0 v → Left v s j r next after → (ended n r (over s j) ≡ burst_in (over s₀ lent) os) × (after ≡ j)
-          go (refused q) e z left = (bursting_refused r (e ∙ ap refused (sym left.answer)), left.written)
-          go (accepted q x) e z left = absurd (some (number (left.answer ∙ z)))
-
-      -- with what it leaves
+      -- the command offered by itself: the burst ends with what it leaves, or goes on
       pub bursting_ended : {r : Reply} {next : Session} {after : List ℕ} → OffersOne s j o r next after → r.number ≢ 0 → ended n r (over next after) ≡ burst_in (over s₀ lent) os
       bursting_ended {r} {next} {after} p some = go (here s j o) refl (here_numbered s j o) p.exact
         where

@@ -1,6 +1,5 @@
 pub mod CallLaws
 pub mod CalledLaws
-pub mod ChunkLaws
 pub mod KeepsLaws
 pub mod MeansLaws
 pub mod RestoreLaws

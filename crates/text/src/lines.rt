@@ -1,4 +1,5 @@
-// A line under way. What does not fit is left out whole; a caller whose line fits gets every byte.
+// A line under way. What does not fit is left out whole; a caller whose line fits gets every byte. That is why it is no `fmt::Write`:
+// `write!` states its bytes only where it succeeded, and nothing states that it does.
 ghost use Rattle.std.specs.Prelude.{◌≡◌, [], ◌∷◌};
 ghost use Rattle.text.specs.Text.{decimal, spaced};
 ghost use Rattle.text.specs.Lines.{shown, Appended, Put};
@@ -61,6 +62,7 @@ pub fn put_bytes(out: &mut [u8], at: usize, bytes: &[u8]) -> usize
     end
 }
 
+// A place in the buffer goes in and comes out, as `Put` has it: the buffer is lent from C, and its bytes are not the line's own.
 pub fn put_line(out: &mut [u8], at: usize, line: &Line) -> usize
     ensures { Put (shown line.now) at out.old out.new result }
 {

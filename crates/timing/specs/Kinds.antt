@@ -1,5 +1,5 @@
--- The seven command kinds and their code numbers: ACT 1, RD 2, WR 3, PREPB 4, PREAB 5, REFAB 6, REFPB 7.
-use Rattle.std.specs.Prelude.{ℕ, Bool, true, false, cond, eqb, Option, Some, None}
+-- The seven command kinds, their names and their code numbers: ACT 1, RD 2, WR 3, PREPB 4, PREAB 5, REFAB 6, REFPB 7.
+use Rattle.std.specs.Prelude.{ℕ, Bool, true, false, cond, eqb, List, codes, Option, Some, None}
 use Rattle.timing.specs.declared.kinds.CommandKind.{CommandKind}
 use Rattle.timing.specs.declared.kinds.CommandKind.TheVariants.{Act, Rd, Wr, Prepb, Preab, Refab, Refpb}
 
@@ -11,6 +11,15 @@ code_of Prepb = 4
 code_of Preab = 5
 code_of Refab = 6
 code_of Refpb = 7
+
+abbrev pub name_of : CommandKind → List ℕ
+name_of Act = codes "ACT"
+name_of Rd = codes "RD"
+name_of Wr = codes "WR"
+name_of Prepb = codes "PREPB"
+name_of Preab = codes "PREAB"
+name_of Refab = codes "REFAB"
+name_of Refpb = codes "REFPB"
 
 abbrev pub kind_of : ℕ → Option CommandKind
 kind_of n =

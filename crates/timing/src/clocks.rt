@@ -5,11 +5,11 @@ ghost use Rattle.timing.specs.Clocks.{converted};
 use crate::rules::Opening;
 
 #[repr(C)]
-#[derive(Clone, Copy)]
+#[derive(Clone, Copy, Default)]
 pub struct DramCycles(pub u16);
 
 #[repr(C)]
-#[derive(Clone, Copy)]
+#[derive(Clone, Copy, Default, PartialEq, Eq, PartialOrd, Ord)]
 pub struct ControllerCycles(pub u64);
 
 // A gap in controller cycles, and the DRAM cycles that rounding up loses.

@@ -7,7 +7,7 @@ use crate::kinds::CommandKind;
 
 // What an opening says beside its twenty gaps, by the numbers that cross to C.
 #[repr(C)]
-#[derive(Clone, Copy)]
+#[derive(Clone, Copy, Default)]
 pub struct Opening {
     pub ratio: u8,
     pub ranks: u8,

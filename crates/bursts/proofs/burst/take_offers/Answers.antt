@@ -13,10 +13,7 @@ pub loop-offer-init : goal.loop-offer-init
 loop-offer-init g c =
     let a = c.args in
     rw c.into_iter-offer-iterator.ensures.into_iter_gives
-    (c.requires.can, c.requires.ends, omega arith, c.of-timings.ensures, runs_start g.I.Iterator.next_gives a.offers a.session.now a.journal.now)
-
-pub take_offer-requires : goal.take_offer-requires
-take_offer-requires g c = c.loop-offer.invariant.3
+    (c.requires.goes_on, c.requires.finite, omega arith, c.of-timings.ensures, runs_start g.I.Iterator.next_gives a.offers a.session.now a.journal.now)
 
 pub returns-in-Err : goal.returns-in-Err
 returns-in-Err g c =
@@ -28,11 +25,6 @@ returns-in-Err g c =
     subst (λ (r : Reply). Done g.I.Iterator.next_gives a.offers a.session.now a.journal.now l.count r c.take_offer.new.session c.take_offer.new.journal) (sym answer)
     (runs_refused g.I.Iterator.next_gives a.offers a.session.now a.journal.now l.offer-iterator c.next.new.self l.session l.journal l.count l.invariant.4 c.in-Some.offer c.in-Some.ensures.steps
     (refusal_reply settings c.in-Err.refusal) c.take_offer.new.session c.take_offer.new.journal c.in-Err.ensures.offers (reply_some settings c.in-Err.refusal))
-
-pub overflow_add-count : goal.overflow_add-count
-overflow_add-count g c =
-    let l = c.loop-offer in
-    omega (arith, l.invariant.2, c.requires.few, (c.in-Some.ensures.goes.on l.invariant.1).2)
 
 pub loop-offer-preserved : goal.loop-offer-preserved
 loop-offer-preserved g c =

@@ -9,17 +9,16 @@ use Rattle.scan.proofs.steps.gap_steps.Goals as goal
 
 pub loop-n-preserved : goal.loop-n-preserved
 loop-n-preserved c =
-    let a = c.args in
+    let rounded = c.args.rounded.now in
     let l = c.loop-n in (
-      omega arith,
+      fill_more 0 l.step-items (gap_steps rounded) l.n c.step_of.result (omega arith) (omega (arith, gap_steps_size rounded)) l.invariant.0
+          (c.step_of.ensures ∙ step_from_lem rounded l.n (omega arith) ∙ gap_steps_at rounded l.n (omega arith)),
       simp length-set l.invariant.1,
-      fill_more 0 l.steps (gap_steps a.rounded.now) l.n c.step_of.result (omega arith) (omega (arith, gap_steps_size a.rounded.now))
-          l.invariant.2 (c.step_of.ensures ∙ step_from_lem a.rounded.now l.n (omega arith) ∙ gap_steps_at a.rounded.now l.n (omega arith)),
     )
 
 pub returns : goal.returns
 returns c =
-    let a = c.args in
+    let rounded = c.args.rounded.now in
     let l = c.loop-n in
     let all : l.n ≡ 21 = omega arith in
-    fill_all 0 l.steps (gap_steps a.rounded.now) 21 (omega arith) (omega (arith, gap_steps_size a.rounded.now)) (rw all at l.invariant.2)
+    fill_all 0 l.step-items (gap_steps rounded) 21 (omega arith) (omega (arith, gap_steps_size rounded)) (rw all at l.invariant.0)

@@ -11,4 +11,4 @@ returns c =
     let a = c.args in
     let has-states : bank_states ≤ a.opening.edition = omega arith in
     rw (le-leb _ _ has-states, c.wanted.ensures, c.looked_at.ensures, c.bit_for-bit.ensures.0)
-    (looks a.up a.command.rank a.command.bank a.command.kind)
+    (looks a.up a.placed.command.rank a.placed.command.bank a.placed.command.kind)

@@ -9,21 +9,20 @@ use Rattle.session.specs.State.{rounded_gaps}
 use Rattle.session.proofs.RoundedLaws.{rounded_size, rounded_at}
 use Rattle.session.proofs.changes.rounded_gaps.Goals as goal
 
-pub loop-i-preserved : goal.loop-i-preserved
-loop-i-preserved c =
+pub loop-place-preserved : goal.loop-place-preserved
+loop-place-preserved c =
     let a = c.args in
-    let l = c.loop-i in
+    let l = c.loop-place in
     let size = rounded_size a.opening a.gaps ∙ c.well_formed.1.0.1.0.1 in (
-      omega arith,
+      fill_more (cycles (rounded_up a.opening (record { 0 = 0 }))) l.cycles-items (rounded_gaps a.opening a.gaps) l.place c.converted.result.rounded (omega arith) (omega arith)
+          l.invariant.0 (ap (λ (x : Converted). x.rounded) c.converted.ensures ∙ rounded_at a.opening a.gaps l.place),
       simp length-set l.invariant.1,
-      fill_more (cycles (rounded_up a.opening (record { 0 = 0 }))) l.rounded (rounded_gaps a.opening a.gaps) l.i c.converted.result.rounded (omega arith) (omega arith)
-          l.invariant.2 (ap (λ (x : Converted). x.rounded) c.converted.ensures ∙ rounded_at a.opening a.gaps l.i),
     )
 
 pub returns : goal.returns
 returns c =
     let a = c.args in
-    let l = c.loop-i in
+    let l = c.loop-place in
     let size = rounded_size a.opening a.gaps ∙ c.well_formed.1.0.1.0.1 in
-    let all : l.i ≡ 20 = omega arith in
-    fill_all (cycles 0) l.rounded (rounded_gaps a.opening a.gaps) 20 (omega arith) (omega arith) (rw all at l.invariant.2)
+    let all : l.place ≡ 20 = omega arith in
+    fill_all (cycles 0) l.cycles-items (rounded_gaps a.opening a.gaps) 20 (omega arith) (omega arith) (rw all at l.invariant.0)

@@ -10,4 +10,4 @@ pub returns : goal.returns
 unfolding outcome_in
 returns c ns =
     let s = c.args.self.now in
-    record { responds = called_is asks.Back brief _ s.session _ s.lent s.journal.now _ _ _ c.take_back-done.ensures.exact c.numbered.ensures; same = refl }
+    record { responds = called_is asks.Back brief _ s.session _ s.lent s.journal.now _ _ _ c.take_last_back-done.ensures.exact (rw c.number_for.ensures at c.numbered.ensures); same = refl }

@@ -1,44 +1,24 @@
--- `burst` meets its contract: command after command, until one is refused or none is left.
-use mathlib.Core.Path.{◌≡◌, subst}
-use Prim.Native.Nat.{◌/◌, ◌<◌, ◌≤◌}
-use native.Mathlib.Omega.{arith}
+-- `burst` meets its contract: its chunks of four numbers are the commands of the request.
+use mathlib.Core.Path.{refl}
+use Prim.Native.Nat.{◌/◌}
 use lib.ListN.{length}
-use Rattle.history.specs.Answers.{Reply}
-use Rattle.requests.specs.declared.forms.Request.TheVariants as asks
-use Rattle.console.specs.Say.{burst_numbers, said_of}
-use Rattle.console.specs.Respond.{outcome_in}
-use Rattle.console.proofs.BurstSaid.{command_is, going_start, going_end, going_stopped, going_on}
+use Rattle.std.specs.Prelude.{map}
+use Rattle.std.proofs.Common.{rules}
+use Rattle.std.proofs.lemmas.Iterator.{YieldsList-from_map, YieldsList-from_slice}
+use Rattle.std.proofs.lemmas.Iterator.Consumers.{YieldsList-at}
+use Rattle.console.specs.Respond.{offer_at, outcome_in}
+use Rattle.console.proofs.CommandLaws.{commands_are}
+use Rattle.console.proofs.RespondLaws.{bursts_is}
 use Rattle.console.proofs.respond.Console.burst.Goals as goal
-
-pub loop-accepted-init : goal.loop-accepted-init
-loop-accepted-init c = let a = c.args in going_start a.self.now a.numbers.now
-
-pub returns-then-answer-ne-ACCEPTED : goal.returns-then-answer-ne-ACCEPTED
-unfolding outcome_in
-returns-then-answer-ne-ACCEPTED c =
-    let a = c.args in
-    let l = c.loop-accepted in
-    let ns = a.numbers.now in
-    let more : l.accepted < length ns / 4 = omega (arith, c.as_chunks.ensures.front_len, c.loop-accepted-test.true) in
-    let one = rw (c.as_chunks.ensures.front, command_is ns l.accepted more) at c.offer_one-answer.ensures in
-    going_stopped a.self.now ns l.self l.accepted l.invariant more one c.burst_said.result c.if-answer-ne-ACCEPTED.true c.burst_said.ensures
-
-pub loop-accepted-preserved : goal.loop-accepted-preserved
-loop-accepted-preserved c =
-    let a = c.args in
-    let l = c.loop-accepted in
-    let ns = a.numbers.now in
-    let more : l.accepted < length ns / 4 = omega (arith, c.as_chunks.ensures.front_len, c.loop-accepted-test.true) in
-    let one = rw (c.as_chunks.ensures.front, command_is ns l.accepted more) at c.offer_one-answer.ensures in
-    going_on a.self.now ns l.self l.accepted l.invariant more one c.if-answer-ne-ACCEPTED.false
 
 pub returns : goal.returns
 unfolding outcome_in
 returns c =
-    let a = c.args in
-    let l = c.loop-accepted in
-    let ns = a.numbers.now in
-    let none : length ns / 4 ≤ l.accepted = omega (arith, c.as_chunks.ensures.front_len, c.loop-accepted-test.false) in
-    let all : length c.as_chunks.result.0.now ≡ l.accepted = omega (arith, c.loop-accepted-test.false, l.auto.accepted-end) in
-    let told = subst (λ (r : Reply). c.burst_said-2.result ≡ said_of asks.Burst (burst_numbers l.accepted r)) c.plain.ensures (rw all at c.burst_said-2.ensures) in
-    going_end a.self.now ns l.self l.accepted l.invariant c.burst_said-2.result none told
+    let s = c.args.self.now in
+    let ns = c.args.numbers.now in
+    let mapped = c.map-offers.ensures in
+    let commands = YieldsList-at mapped.source (YieldsList-from_slice c.as_chunks.result.0.now c.iter.ensures.rest) in
+    let done =
+    c.take_offers-count.ensures (map (λ command. offer_at command 0) c.as_chunks.result.0.now)
+    (YieldsList-from_map _ (λ command. offer_at command 0) commands mapped.closure (λ x r q called. search rules)).runs in
+    record { responds = rw (← commands_are (length ns / 4) 0 ns, ← c.as_chunks.ensures.front) (bursts_is _ _ _ _ s.lent s.journal.now _ _ done.exact c.burst_said.ensures); same = refl }

@@ -10,4 +10,4 @@ pub returns : goal.returns
 unfolding outcome_in
 returns c =
     let s = c.args.self.now in
-    record { responds = rw (← c.number_at.ensures, ← c.number_at-2.ensures, ← c.number_at-3.ensures, ← c.number_at-4.ensures, ← c.gaps_of.ensures) (called_is asks.Open brief _ s.session _ s.lent s.journal.now _ _ _ c.open_session-done.ensures.exact c.numbered.ensures); same = refl }
+    record { responds = rw (← c.number_at.ensures, ← c.number_at-2.ensures, ← c.number_at-3.ensures, ← c.number_at-4.ensures, ← c.gaps_of.ensures) (called_is asks.Open brief _ s.session _ s.lent s.journal.now _ _ _ c.take_opening-done.ensures.exact (rw c.number_for.ensures at c.numbered.ensures)); same = refl }
