@@ -60,7 +60,7 @@ impl<'a> Question<'a> {
     }
 
     // The largest ask of the rank.
-    pub(crate) fn rank(&self) -> u64
+    pub fn rank(&self) -> u64
         ensures { result ≡ rank_asked self.now }
     {
         match self.second {

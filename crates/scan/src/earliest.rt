@@ -1,6 +1,6 @@
 // The earliest cycle of a command and the gap that asks for it, from the arrays. An ask is one number, cycle * 32 + 31 - gap, so that the
 // latest ask, the lowest gap first, is a maximum.
-ghost use Rattle.std.specs.Prelude.{◌≡◌, cond, ◌<◌};
+ghost use Rattle.std.specs.Prelude.{◌≡◌, List, ℕ, cond, ◌<◌, get_or};
 ghost use Rattle.timing.specs.declared.kinds.CommandKind.TheVariants.{Act};
 ghost use Rattle.timing.specs.Kinds.{same_kind};
 ghost use Rattle.session.specs.Stamps.{read_back};
@@ -45,16 +45,16 @@ fn four(fourth: Stamp, step: Step, kind: CommandKind) -> u64
 }
 
 // What is asked beside the rows: the cycle after the last survivor, and by the fourth activate.
-fn known_ask(timings: &Timings, progress: &Progress, command: Command) -> u64
-    ensures { result ≡ known_ask timings.now.steps progress.now command }
+pub fn known_ask(step_of_four: Step, progress: &Progress, command: Command) -> u64
+    ensures { (steps : List ℕ) → get_or steps 20 0 ≡ step_of_four.size → result ≡ known_ask steps progress.now command }
 {
     let floor = progress.latest.after().0 * 32 + 31;
     let fourth = fourth_for(&progress.activates, command);
-    floor.max(four(fourth, timings.step_of_four(), command.kind))
+    floor.max(four(fourth, step_of_four, command.kind))
 }
 
 // The bank's spot in the first row of its rank. A slot has the kind's row too, and reduces the bank.
-fn spot_of(command: Command) -> usize
+pub fn spot_of(command: Command) -> usize
     ensures { result ≡ spot_of command }
 {
     usize::from(command.rank) % 2 * RANK_SLOTS + usize::from(command.bank)
@@ -62,7 +62,7 @@ fn spot_of(command: Command) -> usize
 
 impl Question<'_> {
     // By the rank's rows, and by what is asked beside them.
-    fn earliest(&self, known: u64) -> Earliest
+    pub fn earliest(&self, known: u64) -> Earliest
         ensures { ask_in result ≡ unpacked (largest_asked self.now known) }
     {
         let largest = known.max(self.rank());
@@ -85,5 +85,5 @@ pub fn earliest_of(session: &Session, timings: &Timings, placed: Placed) -> Earl
         second: command.kind,
         spot: spot_of(command),
     };
-    question.earliest(known_ask(timings, &session.progress, command))
+    question.earliest(known_ask(timings.step_of_four(), &session.progress, command))
 }

@@ -5,7 +5,7 @@ ghost use Rattle.scan.specs.Rows.{kept_at, pair_kept, four_kept, far_kept, mate_
 
 use crate::timings::{Kept, Row, Step};
 
-pub(crate) fn ask_of(kept: Kept, step: Step) -> u64
+pub fn ask_of(kept: Kept, step: Step) -> u64
     ensures { result ≡ ask_of kept.after step.size }
 {
     if kept.after == 0 || step.size == 0 {
@@ -39,7 +39,7 @@ impl Kept {
 }
 
 impl Row<'_> {
-    pub(crate) fn kept(&self, bank: usize) -> Kept
+    pub fn kept(&self, bank: usize) -> Kept
         requires { bank < 16 }
         ensures { result.after ≡ kept_at self.now.last.now (self.now.first + bank) }
     {
@@ -76,7 +76,7 @@ impl Row<'_> {
     }
 
     // All of it, by its newest stamp for each nearness to a bank.
-    pub(crate) fn near_ask(
+    pub fn near_ask(
         &self,
         bank: usize,
         own: Step,
@@ -95,7 +95,7 @@ impl Row<'_> {
     }
 
     // All of it where either kind names no bank: all banks are equally near.
-    pub(crate) fn flat_ask(&self, step: Step) -> u64
+    pub fn flat_ask(&self, step: Step) -> u64
         ensures { result ≡ ask_of (max (far_kept self.now.last.now self.now.first 0) (four_kept self.now.last.now self.now.first 0)) step.size }
     {
         ask_of(self.far(0).newer(self.four(0)), step)

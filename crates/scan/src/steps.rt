@@ -22,7 +22,7 @@ fn step_of(gap: ControllerCycles, n: usize) -> u64
 }
 
 // Gap n stands at n - 1; for 0 any will do.
-fn gap_steps(rounded: &[ControllerCycles; 20]) -> [u64; 21]
+pub fn gap_steps(rounded: &[ControllerCycles; 20]) -> [u64; 21]
     ensures { result ≡ gap_steps rounded.now }
 {
     let mut steps = [0u64; 21];
