@@ -62,7 +62,8 @@ impl<'a> Answers<'a> {
         }
         self.make_room()?;
         self.len = put_line(self.out, self.len, &line);
-        if let Some(bytes) = journal.get(said.shown) {
+        let end = said.hex_from.saturating_add(said.hex_count);
+        if let Some(bytes) = journal.get(said.hex_from..end) {
             self.show(bytes)?;
         }
         self.len = put_bytes(self.out, self.len, b"\n");

@@ -1,24 +1,18 @@
 -- A line that crosses to C: nothing of the outcome is left open.
 use mathlib.Core.Path.{◌≡◌, sym, ◌∙◌}
 use mathlib.Core.List.{List}
-use Prim.Native.Nat.{ℕ, ◌-◌}
-use native.Mathlib.Omega.{arith}
+use Prim.Native.Nat.{ℕ}
 use lib.ListN.{length}
 use Rattle.text.specs.Lines.{Put}
-use Rattle.console.specs.declared.respond.Response.{Response}
-use Rattle.console.specs.Respond.{Outcome, Responds}
+use Rattle.console.specs.Respond.{Outcome}
 use Rattle.console.specs.Say.{line_text}
 use Rattle.capi.specs.declared.language.LinePlayed.{LinePlayed}
 use Rattle.capi.specs.Language.{PlaysLine}
 
--- as many bytes are shown as the outcome prints
-shown_count : {o : Outcome} {r : Response} {after : List ℕ} → Responds o r after → r.said.shown.end - r.said.shown.start ≡ length o.printed
-shown_count p = omega (arith, p.place, p.end)
-
 -- the text is the outcome's own: its word, its numbers, and a space before the bytes, where there are any
 pub said : {o : Outcome} {journal before after : List ℕ} {r : LinePlayed} → PlaysLine o journal before after r
     → Put (line_text o.request o.numbers (length o.printed)) 0 before after r.written
-said p = rw (p.responds.request, p.responds.numbers, shown_count p.responds) at p.text
+said p = rw (p.responds.request, p.responds.numbers, p.responds.count) at p.text
 
 -- DETERMINED, for every state value, any lent bytes, any line and any buffer
 pub line_determined : {o : Outcome} {journal journal' before after after' : List ℕ} {r r' : LinePlayed}
@@ -32,5 +26,5 @@ line_determined p q = (
   p.lent ∙ p.responds.lent ∙ sym (q.lent ∙ q.responds.lent),
   (said p).place ∙ sym (said q).place,
   p.place ∙ p.responds.place ∙ sym (q.place ∙ q.responds.place),
-  p.count ∙ shown_count p.responds ∙ sym (q.count ∙ shown_count q.responds),
+  p.count ∙ p.responds.count ∙ sym (q.count ∙ q.responds.count),
 )

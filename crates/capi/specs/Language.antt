@@ -1,5 +1,5 @@
 -- What a line of the console's language comes to, as it crosses to C.
-use Rattle.std.specs.Prelude.{◌≡◌, not, List, ℕ, ◌-◌, eqb}
+use Rattle.std.specs.Prelude.{◌≡◌, not, List, ℕ, eqb}
 use Rattle.session.specs.declared.state.Session.{Session}
 use Rattle.text.specs.Lines.{Put}
 use Rattle.requests.specs.Requests.{asked}
@@ -17,8 +17,8 @@ pub record PlaysLine (o : Outcome) (journal before after : List ℕ) (r : LinePl
   pub session : r.session ≡ response.session
   pub lent : r.lent ≡ response.lent
   pub text : Put (said_text response.said) 0 before after r.written
-  pub place : r.hex_from ≡ response.said.shown.start
-  pub count : r.hex_count ≡ response.said.shown.end - response.said.shown.start
+  pub place : r.hex_from ≡ response.said.hex_from
+  pub count : r.hex_count ≡ response.said.hex_count
 
 -- the call by its name: state, journal and line; what is given beside them; the journal and the buffer after it
 abbrev pub Plays : Session → List ℕ → List ℕ → LineGiven → List ℕ → List ℕ → List ℕ → LinePlayed → Type 0

@@ -48,7 +48,7 @@ pub extern "C" fn rossinhiu_console_5(
         session: response.session,
         lent: response.lent,
         written,
-        hex_from: said.shown.start,
-        hex_count: said.shown.len(),
+        hex_from: said.hex_from,
+        hex_count: said.hex_count,
     }
 }

@@ -1,7 +1,7 @@
 -- Laws of responses.
 use mathlib.Core.Path.{◌≡◌, refl, sym, ◌∙◌, ap, subst}
 use mathlib.Core.List.{List, [], ◌∷◌, ◌++◌}
-use Prim.Native.Nat.{ℕ, zero, suc, ◌+◌, ◌-◌, ◌≤◌, ◌<◌}
+use Prim.Native.Nat.{ℕ, zero, suc, ◌+◌, ◌≤◌, ◌<◌}
 use native.Mathlib.Omega.{arith}
 use lib.ListN.{length, take, drop, length-drop}
 use lib.Seq.{length-take-le}
@@ -18,6 +18,7 @@ use Rattle.console.specs.declared.say.Said.{Said}
 use Rattle.console.specs.declared.respond.Response.{Response}
 use Rattle.console.specs.Say.{burst_numbers, said_of, with_bytes}
 use Rattle.console.specs.Respond.{at, each_from, prints, says, called, bursts, restores, Responds}
+use Rattle.console.proofs.SayLaws.{filled_front}
 
 abbrev pub response_of : Session → ℕ → Said → Response
 response_of s lent a = record { session = s; lent = lent; said = a }
@@ -25,16 +26,15 @@ response_of s lent a = record { session = s; lent = lent; said = a }
 module _ (q : Request) (ns : List ℕ) (s : Session) (lent : ℕ) (j : List ℕ) where
   -- numbers alone
   pub says_is : (a : Said) → a ≡ said_of q ns → Responds (says q ns s lent j) (response_of s lent a) j
-  says_is a e = rw e (record { request = refl; numbers = refl; place = refl; end = refl; printed = refl; state = refl; lent = refl; journal = refl })
+  says_is a e = rw e (record { request = refl; counted = refl; numbers = filled_front ns; place = refl; count = refl; printed = refl; state = refl; lent = refl; journal = refl })
 
   -- with the journal's bytes behind them
-  pub prints_is : (a told : Said) (from size : ℕ) → told ≡ said_of q ns → a ≡ with_bytes told (record { start = from; end = from + size }) → from + size ≤ length j
+  pub prints_is : (a told : Said) (from size : ℕ) → told ≡ said_of q ns → a ≡ with_bytes told from size → from + size ≤ length j
       → Responds (prints q ns from (take size (drop from j)) s lent j) (response_of s lent a) j
   prints_is a told from size e f room =
       let left : size ≤ length (drop from j) = simp length-drop (omega arith) in
-      let count : from + size - from ≡ size = omega arith in
       rw (f, e)
-      (record { request = refl; numbers = refl; place = refl; end = ap (λ (n : ℕ). from + n) (sym (length-take-le size (drop from j) left)); printed = ap (λ (n : ℕ). take n (drop from j)) count; state = refl; lent = refl; journal = refl })
+      (record { request = refl; counted = refl; numbers = filled_front ns; place = refl; count = sym (length-take-le size (drop from j) left); printed = refl; state = refl; lent = refl; journal = refl })
 
 -- a call's answer, which saw the first bytes of the journal
 pub called_is : (q : Request) (numbers : Reply → List ℕ) (v : Verdict) (before next : Session) (lent : ℕ) (j : List ℕ) (reply : Reply) (bytes : List ℕ) (a : Said) → Left v before (take lent j) reply next bytes → a ≡ said_of q (numbers reply)

@@ -1,10 +1,11 @@
 -- Lines put together from a word and numbers.
 use mathlib.Core.Path.{◌≡◌, ◌∙◌, ap}
 use mathlib.Core.List.{List, [], ◌∷◌, ◌++◌, append-nil}
-use Prim.Native.Nat.{ℕ, ◌+◌, ◌*◌, ◌≤◌}
+use Prim.Native.Nat.{ℕ, ◌+◌, ◌-◌, ◌*◌, ◌≤◌}
 use native.Mathlib.Omega.{arith}
 use borrow.Author.Tests.{ne_eqb}
-use lib.ListN.{length, length-append}
+use lib.ListN.{length, take, replicate, length-append}
+use Rattle.std.proofs.Math.Seq.{take-append_seam}
 use Rattle.text.specs.Text.{text, spaced}
 use Rattle.text.specs.declared.lines.Line.{Line}
 use Rattle.text.specs.Lines.{shown, Appended, IsLine}
@@ -12,7 +13,7 @@ use Rattle.text.proofs.LineLaws.{decimal_most}
 use Rattle.requests.specs.declared.forms.Request.{Request}
 use Rattle.requests.specs.declared.forms.Request.TheVariants as asks
 use Rattle.requests.specs.Forms.{word_of}
-use Rattle.console.specs.Say.{line_text}
+use Rattle.console.specs.Say.{filled, line_text}
 
 -- the words of the table are short
 pub word_short : (q : Request) → length (word_of q) ≤ 8
@@ -39,6 +40,10 @@ spaced_most (n ∷ ns) = simp length-append (omega (arith, spaced_most ns, decim
 
 put_is : (xs ys : List ℕ) (l r : Line) → IsLine xs l → length xs + length ys ≤ 512 → Appended l ys r → IsLine (xs ++ ys) r
 put_is xs ys l r is fits put = put (rw is fits) ∙ ap (λ (z : List ℕ). z ++ ys) is
+
+-- the numbers come back out of their array
+pub filled_front : (ns : List ℕ) → take (length ns) (filled ns) ≡ ns
+filled_front ns = take-append_seam ns (replicate (22 - length ns) 0)
 
 -- a line empty, with its word, with its numbers, and with a space behind them
 module _ (q : Request) (ns : List ℕ) (hex : ℕ) (e w l : Line) (few : length ns ≤ 22) (empty : shown e ≡ []) (named : Appended e (word_of q) w) (numbered : Appended w (spaced ns) l) where

@@ -1,5 +1,5 @@
 -- What a request comes to.
-use Rattle.std.specs.Prelude.{◌≡◌, cond, List, [], ◌∷◌, ◌++◌, ℕ, zero, suc, ◌+◌, ◌*◌, ◌/◌, ◌%◌, min, leb, ltb, length, take, drop, set, get_or, slice_range}
+use Rattle.std.specs.Prelude.{◌≡◌, cond, List, [], ◌∷◌, ◌++◌, ℕ, zero, suc, ◌+◌, ◌*◌, ◌/◌, ◌%◌, min, leb, ltb, length, take, drop, set, get_or}
 use Rattle.timing.specs.declared.clocks.DramCycles.{DramCycles}
 use Rattle.timing.specs.Clocks.{cycles}
 use Rattle.timing.specs.Editions.{newest}
@@ -126,10 +126,11 @@ outcome s j lent a = outcome_in s j (min lent (length j)) a.request a.numbers
 
 pub record Responds (o : Outcome) (r : Response) (after : List ℕ) : Type 0 where
   pub request : r.said.request ≡ o.request
-  pub numbers : r.said.numbers.items ≡ o.numbers
-  pub place : r.said.shown.start ≡ o.place
-  pub end : r.said.shown.end ≡ o.place + length o.printed
-  pub printed : slice_range after r.said.shown.start r.said.shown.end ≡ o.printed
+  pub counted : r.said.count ≡ length o.numbers
+  pub numbers : take r.said.count r.said.numbers ≡ o.numbers
+  pub place : r.said.hex_from ≡ o.place
+  pub count : r.said.hex_count ≡ length o.printed
+  pub printed : take r.said.hex_count (drop r.said.hex_from after) ≡ o.printed
   pub state : r.session ≡ o.state
   pub lent : r.lent ≡ o.lent
   pub journal : after ≡ o.journal

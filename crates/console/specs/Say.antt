@@ -1,6 +1,5 @@
 -- The text of an answer's line.
-use Rattle.std.specs.Prelude.{cond, List, [], ◌∷◌, ◌++◌, map, ℕ, ◌-◌, eqb}
-use Rattle.std.specs.declared.ops.Range.{Range}
+use Rattle.std.specs.Prelude.{cond, List, [], ◌∷◌, ◌++◌, map, ℕ, ◌-◌, eqb, length, take, replicate}
 use Rattle.text.specs.Text.{spaced}
 use Rattle.history.specs.Answers.{Reply, Status}
 use Rattle.journal.specs.Listing.{space}
@@ -36,11 +35,15 @@ unfoldable pub line_text : Request → List ℕ → ℕ → List ℕ
 line_text q ns count = (word_of q ++ spaced ns) ++ space_before count
 
 abbrev pub said_text : Said → List ℕ
-said_text a = line_text a.request a.numbers.items (a.shown.end - a.shown.start)
+said_text a = line_text a.request (take a.count a.numbers) a.hex_count
+
+-- the numbers in their array: zeros behind them
+abbrev pub filled : List ℕ → List ℕ
+filled ns = ns ++ replicate (22 - length ns) 0
 
 -- numbers alone, and with the journal's bytes behind them
 abbrev pub said_of : Request → List ℕ → Said
-said_of q ns = record { request = q; numbers = record { items = ns }; shown = record { start = 0; end = 0 } }
+said_of q ns = record { request = q; count = length ns; numbers = filled ns; hex_from = 0; hex_count = 0 }
 
-abbrev pub with_bytes : Said → Range ℕ → Said
-with_bytes a shown = record { request = a.request; numbers = a.numbers; shown = shown }
+abbrev pub with_bytes : Said → ℕ → ℕ → Said
+with_bytes a from count = record { request = a.request; count = a.count; numbers = a.numbers; hex_from = from; hex_count = count }

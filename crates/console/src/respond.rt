@@ -138,7 +138,7 @@ impl Console<'_> {
     {
         let part = stretch_place(self.session, self.lent);
         let said = numbered(Request::Stretch, &[part.size as u64]);
-        with_bytes(said, part.start..part.start + part.size)
+        with_bytes(said, part.start, part.size)
     }
 
     fn lend(&mut self, numbers: &[u64]) -> Said
@@ -175,11 +175,11 @@ impl Console<'_> {
         ensures { Answers asks.Bytes self.now numbers.now result }
     {
         let from = number_at(numbers, 0);
-        let end = from.saturating_add(number_at(numbers, 1));
-        if (self.journal.len() as u64) < end {
+        let count = number_at(numbers, 1);
+        if (self.journal.len() as u64) < from.saturating_add(count) {
             return numbered(Request::Malformed, &[]);
         }
-        with_bytes(numbered(Request::Bytes, &[]), from as usize..end as usize)
+        with_bytes(numbered(Request::Bytes, &[]), from as usize, count as usize)
     }
 
     fn gaps(&self, numbers: &[u64]) -> Said

@@ -12,18 +12,20 @@ use datasheet::sheet::GapsAnswer;
 use judging::answers::Answer;
 use judging::refusals::Refusal;
 use requests::forms::Request;
-use std::ops::Range;
 use text::lines::Line;
 
 // The most numbers that an answer has: those of a data sheet.
 const MOST: usize = 22;
 
-// A request's word, numbers, and behind them the bytes that are shown of the journal.
-#[derive(Drop)]
+// A request's word, the first `count` numbers, and behind them `hex_count` bytes of the journal from a place on.
+// An answer is copied as it was: the library's vector and range are not `Copy`.
+#[derive(Clone, Copy)]
 pub struct Said {
     pub request: Request,
-    pub numbers: ArrayVec<u64, MOST>,
-    pub shown: Range<usize>,
+    pub count: usize,
+    pub numbers: [u64; MOST],
+    pub hex_from: usize,
+    pub hex_count: usize,
 }
 
 // Numbers alone, as many of them as an answer has.
@@ -31,18 +33,23 @@ pub fn numbered(request: Request, numbers: &[u64]) -> Said
     ensures { result ≡ said_of request (take 22 numbers.now) }
 {
     let count = numbers.len().min(MOST);
+    let mut filled = [0; MOST];
+    filled[..count].copy_from_slice(&numbers[..count]);
     Said {
         request,
-        numbers: ArrayVec::try_from(&numbers[..count]).unwrap(),
-        shown: 0..0,
+        count,
+        numbers: filled,
+        hex_from: 0,
+        hex_count: 0,
     }
 }
 
 // The same, with bytes of the journal behind it.
-pub fn with_bytes(mut said: Said, shown: Range<usize>) -> Said
-    ensures { result ≡ with_bytes said shown }
+pub fn with_bytes(mut said: Said, from: usize, count: usize) -> Said
+    ensures { result ≡ with_bytes said from count }
 {
-    said.shown = shown;
+    said.hex_from = from;
+    said.hex_count = count;
     said
 }
 
@@ -73,11 +80,13 @@ pub fn status_said(answered: Option<Status>) -> Said
 pub fn gaps_said(given: &GapsAnswer) -> Said
     ensures { result ≡ said_of asks.Gaps (gaps_numbers given.now) }
 {
-    let mut said = numbered(Request::Gaps, &[given.number, given.gap_number]);
+    let mut numbers = ArrayVec::<u64, MOST>::new();
+    numbers.push(given.number);
+    numbers.push(given.gap_number);
     for gap in &given.gaps {
-        said.numbers.push(u64::from(gap.0));
+        numbers.push(u64::from(gap.0));
     }
-    said
+    numbered(Request::Gaps, numbers.as_slice())
 }
 
 // An answer's number, and what is told beside it.
@@ -111,8 +120,8 @@ pub fn said_line(said: &Said) -> Line
 {
     let mut line = Line::empty();
     line.put_all(said.request.word());
-    line.put_numbers(said.numbers.as_slice());
-    if !said.shown.is_empty() {
+    line.put_numbers(&said.numbers[..said.count.min(MOST)]);
+    if said.hex_count > 0 {
         line.put(b' ');
     }
     line

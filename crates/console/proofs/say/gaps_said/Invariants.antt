@@ -2,9 +2,7 @@
 use mathlib.Core.Path.{◌≡◌}
 use mathlib.Core.List.{◌∷◌, map}
 use lib.ListN.{take}
-use Rattle.requests.specs.declared.forms.Request.TheVariants as asks
-use Rattle.console.specs.Say.{said_of}
 use Rattle.console.proofs.say.gaps_said.Given as goal
 
 abbrev pub invariant-loop-gap : goal.invariant-loop-gap
-invariant-loop-gap l = l.said ≡ said_of asks.Gaps (l.given.number ∷ l.given.gap_number ∷ map (λ g. g.0) (take l.gap-index l.given.gaps))
+invariant-loop-gap l = l.numbers.items ≡ l.given.number ∷ l.given.gap_number ∷ map (λ g. g.0) (take l.gap-index l.given.gaps)

@@ -1,23 +1,27 @@
 -- `said_line` meets its contract.
-use Prim.Native.Nat.{◌-◌, ◌≤◌, ◌<◌}
+use mathlib.Core.Path.{◌≡◌}
+use Prim.Native.Nat.{◌≤◌}
 use native.Mathlib.Omega.{arith}
-use lib.ListN.{length}
-use Rattle.std.proofs.Common.{rules, tests}
+use lib.ListN.{length, take, length-take}
+use Rattle.std.proofs.Common.{rules}
 use Rattle.text.specs.Text.{text}
+use Rattle.text.proofs.PutLaws.{take_min}
 use Rattle.console.proofs.SayLaws.{line_plain, line_bytes}
 use Rattle.console.proofs.say.said_line.Goals as goal
 
-pub returns-then-not-is_empty : goal.returns-then-not-is_empty
+pub returns-then-said-gt0 : goal.returns-then-said-gt0
 unfolding text
-returns-then-not-is_empty c =
+returns-then-said-gt0 c =
     let a = c.args.said.now in
-    let few : length a.numbers.items ≤ 22 = rw c.as_slice.ensures.value at c.as_slice.ensures.fits in
-    let some : a.shown.start < a.shown.end = search (rules, tests) in
-    line_bytes a.request a.numbers.items (a.shown.end - a.shown.start) c.empty-line.result c.put_all.new.self c.put_numbers.new.self few c.empty-line.ensures (rw c.word.ensures at c.put_all.ensures) (rw c.as_slice.ensures.value at c.put_numbers.ensures) (λ none. omega (arith, some)) c.put.new.self c.put.ensures
+    let size : length a.numbers ≡ 22 = search rules in
+    let same = take_min a.numbers a.count 22 c.min.result size c.min.ensures in
+    let few : length (take a.count a.numbers) ≤ 22 = omega (arith, length-take a.count a.numbers) in
+    line_bytes a.request (take a.count a.numbers) a.hex_count c.empty-line.result c.put_all.new.self c.put_numbers.new.self few c.empty-line.ensures (rw c.word.ensures at c.put_all.ensures) (rw (← same) at c.put_numbers.ensures) (λ none. omega (arith, c.if-said-gt0.true)) c.put.new.self c.put.ensures
 
-pub returns-else-not-is_empty : goal.returns-else-not-is_empty
-returns-else-not-is_empty c =
+pub returns-else-said-gt0 : goal.returns-else-said-gt0
+returns-else-said-gt0 c =
     let a = c.args.said.now in
-    let few : length a.numbers.items ≤ 22 = rw c.as_slice.ensures.value at c.as_slice.ensures.fits in
-    let none : a.shown.end ≤ a.shown.start = search (rules, tests) in
-    line_plain a.request a.numbers.items (a.shown.end - a.shown.start) c.empty-line.result c.put_all.new.self c.put_numbers.new.self few c.empty-line.ensures (rw c.word.ensures at c.put_all.ensures) (rw c.as_slice.ensures.value at c.put_numbers.ensures) (omega (arith, none))
+    let size : length a.numbers ≡ 22 = search rules in
+    let same = take_min a.numbers a.count 22 c.min.result size c.min.ensures in
+    let few : length (take a.count a.numbers) ≤ 22 = omega (arith, length-take a.count a.numbers) in
+    line_plain a.request (take a.count a.numbers) a.hex_count c.empty-line.result c.put_all.new.self c.put_numbers.new.self few c.empty-line.ensures (rw c.word.ensures at c.put_all.ensures) (rw (← same) at c.put_numbers.ensures) (omega (arith, c.if-said-gt0.false))
