@@ -108,7 +108,7 @@ impl Console<'_> {
         let offers = commands.iter().map(offer_of);
         let lent = &mut self.journal[..self.lent];
         let Ended { count, answer } = take_offers(&mut self.session, lent, offers);
-        burst_said(count, answer)
+        burst_said(Request::Burst, count, answer)
     }
 
     fn ask(&self, numbers: &[u64]) -> Said
@@ -130,7 +130,7 @@ impl Console<'_> {
     fn status(&self) -> Said
         ensures { (ns : List ℕ) → Answers asks.Status self.now ns result }
     {
-        status_said(status(self.session))
+        status_said(Request::Status, status(self.session))
     }
 
     fn stretch(&self) -> Said
@@ -186,7 +186,7 @@ impl Console<'_> {
         ensures { Answers asks.Gaps self.now numbers.now result }
     {
         let tck = Picoseconds(number_at(numbers, 0));
-        gaps_said(&sheet::gaps_of(tck, times_of(numbers)))
+        gaps_said(Request::Gaps, &sheet::gaps_of(tck, times_of(numbers)))
     }
 
     fn perform(&mut self, request: Request, numbers: &[u64]) -> Said

@@ -1,7 +1,6 @@
 // The answer to a line: its request's word, numbers behind it, and bytes of the journal.
 ghost use Rattle.std.specs.Prelude.{◌≡◌, ◌∷◌, [], take};
 ghost use Rattle.text.specs.Lines.{IsLine};
-ghost use Rattle.requests.specs.declared.forms.Request.TheVariants as asks;
 ghost use Rattle.judging.specs.Judged.{reply_in};
 ghost use Rattle.checker.specs.Replies.{status_replied};
 ghost use Rattle.console.specs.Say.{said_text, said_of, with_bytes, full, status_numbers, gaps_numbers, burst_numbers};
@@ -54,12 +53,12 @@ pub fn with_bytes(mut said: Said, from: usize, count: usize) -> Said
 }
 
 // None where no session is open.
-pub fn status_said(answered: Option<Status>) -> Said
-    ensures { result ≡ said_of asks.Status (status_numbers (status_replied answered)) }
+pub fn status_said(request: Request, answered: Option<Status>) -> Said
+    ensures { result ≡ said_of request (status_numbers (status_replied answered)) }
 {
     match answered {
         Some(status) => numbered(
-            Request::Status,
+            request,
             &[
                 Answer::ACCEPTED,
                 u64::from(status.client),
@@ -70,15 +69,12 @@ pub fn status_said(answered: Option<Status>) -> Said
                 status.records,
             ],
         ),
-        None => numbered(
-            Request::Status,
-            &[Refusal::NoSession.number(), 0, 0, 0, 0, 0, 0],
-        ),
+        None => numbered(request, &[Refusal::NoSession.number(), 0, 0, 0, 0, 0, 0]),
     }
 }
 
-pub fn gaps_said(given: &GapsAnswer) -> Said
-    ensures { result ≡ said_of asks.Gaps (gaps_numbers given.now) }
+pub fn gaps_said(request: Request, given: &GapsAnswer) -> Said
+    ensures { result ≡ said_of request (gaps_numbers given.now) }
 {
     let mut numbers = ArrayVec::<u64, MOST>::new();
     numbers.push(given.number);
@@ -86,7 +82,7 @@ pub fn gaps_said(given: &GapsAnswer) -> Said
     for gap in &given.gaps {
         numbers.push(u64::from(gap.0));
     }
-    numbered(Request::Gaps, numbers.as_slice())
+    numbered(request, numbers.as_slice())
 }
 
 // An answer's number, and what is told beside it.
@@ -107,11 +103,11 @@ pub fn answer_said(request: Request, answer: Answer) -> Said
     numbered(request, &full(answer))
 }
 
-pub fn burst_said(accepted: u64, answer: Answer) -> Said
-    ensures { result ≡ said_of asks.Burst (burst_numbers accepted (reply_in answer)) }
+pub fn burst_said(request: Request, accepted: u64, answer: Answer) -> Said
+    ensures { result ≡ said_of request (burst_numbers accepted (reply_in answer)) }
 {
     let [number, cycle, gap, loss] = full(answer);
-    numbered(Request::Burst, &[accepted, number, cycle, gap, loss])
+    numbered(request, &[accepted, number, cycle, gap, loss])
 }
 
 // The line of an answer; its bytes stand behind it, after a space.
