@@ -1,40 +1,33 @@
--- Bytes as hexadecimal: the digits are those of the library's text.
-use mathlib.Core.Path.{◌≡◌, refl, sym, ◌∙◌, ap}
-use mathlib.Core.Bool.{Bool, true, ◌&&◌}
+-- Bytes as hexadecimal: two digits for each byte.
+use mathlib.Core.Path.{◌≡◌, refl}
 use mathlib.Core.List.{List, [], ◌∷◌}
-use Prim.Native.Nat.{ℕ, zero, suc, ◌*◌, ◌/◌, ◌%◌, ◌<◌}
+use Prim.Native.Nat.{ℕ, zero, suc, ◌+◌, ◌*◌, ◌/◌, ◌%◌, ◌≤◌, ◌<◌}
 use native.Mathlib.Omega.{arith}
-use lib.Dec.{eqb}
-use lib.ListN.{length}
-use Rattle.std.proofs.Common.{inl, inr}
-use Rattle.std.proofs.lemmas.Bool.{and_parts, cases_lt, eqb-true}
-use Rattle.std.specs.List.{slice_index}
-use Rattle.hex.specs.Hex.{lower_digits, encode_with, encode_lower, IsBytes}
-use Rattle.hex.proofs.HexLemmas.{length-encode_with}
+use lib.ListN.{length, get_or, set}
+use lib.Seq.{paste, paste-suc}
 use Rattle.console.specs.Output.{hex_digit, hex_text}
 
--- of the first n digits
-abbrev agree : ℕ → Bool
-agree zero = true
-agree (suc n) = eqb (hex_digit n) (slice_index lower_digits n) && agree n
+pub hex_size : (bytes : List ℕ) → length (hex_text bytes) ≡ 2 * length bytes
+unfolding hex_text
+hex_size [] = refl
+hex_size (b ∷ bs) = omega (arith, hex_size bs)
 
-digit_is : (n k : ℕ) → agree n ≡ true → k < n → hex_digit k ≡ slice_index lower_digits k
-digit_is zero k all low = absurd (omega arith)
-digit_is (suc n) k all low =
-    let parts = and_parts (eqb (hex_digit n) (slice_index lower_digits n)) (agree n) all in
-    elim (cases_lt k n) [
-      | inl below ↦ digit_is n k parts.1 below
-      | inr top ↦
-          let here : k ≡ n = omega arith in
-          rw here (eqb-true (hex_digit n) (slice_index lower_digits n) parts.0)
-    ]
+hex_at : (bytes : List ℕ) (i : ℕ) → i < length bytes → (get_or (hex_text bytes) (2 * i) 0 ≡ hex_digit (get_or bytes i 0 / 16)) × (get_or (hex_text bytes) (suc (2 * i)) 0 ≡ hex_digit (get_or bytes i 0 % 16))
+unfolding hex_text
+hex_at [] i low = absurd (omega arith)
+hex_at (b ∷ bs) zero low = (refl, refl)
+hex_at (b ∷ bs) (suc i) low =
+    let twice : 2 * suc i ≡ suc (suc (2 * i)) = omega arith in
+    let more = hex_at bs i (omega arith) in
+    (rw twice more.0, rw twice more.1)
 
-pub hex_is : (bytes : List ℕ) → IsBytes bytes → encode_lower bytes ≡ hex_text bytes
-unfolding hex_text encode_with
-hex_is [] small = refl
-hex_is (b ∷ bs) small =
-    let low : b < 256 = small 0 in
-    rw (digit_is 16 (b / 16) refl (omega arith), digit_is 16 (b % 16) refl (omega arith), hex_is bs (λ i. small (suc i))) refl
-
-pub hex_size : (bytes : List ℕ) → IsBytes bytes → length (hex_text bytes) ≡ 2 * length bytes
-hex_size bytes small = ap length (sym (hex_is bytes small)) ∙ length-encode_with lower_digits bytes
+-- a turn of the loop: both digits of a byte
+pub hex_next : (bytes out : List ℕ) (at i : ℕ) → i < length bytes → at + 2 * length bytes ≤ length out
+    → set (set (paste out at (hex_text bytes) (2 * i)) (at + 2 * i) (hex_digit (get_or bytes i 0 / 16))) (at + 2 * i + 1) (hex_digit (get_or bytes i 0 % 16)) ≡ paste out at (hex_text bytes) (2 * (i + 1))
+hex_next bytes out at i low room =
+    let all = hex_size bytes in
+    let digits = hex_at bytes i low in
+    let place : at + 2 * i + 1 ≡ at + suc (2 * i) = omega arith in
+    let twice : 2 * (i + 1) ≡ suc (suc (2 * i)) = omega arith in
+    rw (← digits.0, ← digits.1, place, twice, paste-suc out at (hex_text bytes) (2 * i) 0 (omega arith) (omega arith))
+    (paste-suc out at (hex_text bytes) (suc (2 * i)) 0 (omega arith) (omega arith))
