@@ -11,14 +11,15 @@ use Rattle.std.specs.Array.{IsFromFnResultFrom, IsFromFnResult}
 use Rattle.history.specs.Answers.{Reply, Verdict}
 use Rattle.session.specs.declared.state.Session.{Session}
 use Rattle.statements.specs.Bursts.{Burst, ended, over}
-use Rattle.statements.specs.Exact.{Left, RestoredIn, RestoreLeft}
+use Rattle.journal.specs.Restore.{Part, part_of}
+use Rattle.statements.specs.Exact.{Left, RestoredIn, RestoreLeft, stretch_in}
 use Rattle.requests.specs.declared.forms.Request.{Request}
 use Rattle.requests.specs.declared.forms.Request.TheVariants as asks
 use Rattle.console.specs.declared.say.Said.{Said}
 use Rattle.console.specs.declared.respond.Response.{Response}
 use Rattle.console.specs.Say.{burst_numbers, said_of, with_bytes}
 use Rattle.console.specs.Respond.{at, each_from, prints, says, called, bursts, restores, Responds}
-use Rattle.console.proofs.SayLaws.{filled_front}
+use Rattle.console.proofs.SayLaws.{array_front}
 
 abbrev pub response_of : Session → ℕ → Said → Response
 response_of s lent a = record { session = s; lent = lent; said = a }
@@ -26,7 +27,7 @@ response_of s lent a = record { session = s; lent = lent; said = a }
 module _ (q : Request) (ns : List ℕ) (s : Session) (lent : ℕ) (j : List ℕ) where
   -- numbers alone
   pub says_is : (a : Said) → a ≡ said_of q ns → Responds (says q ns s lent j) (response_of s lent a) j
-  says_is a e = rw e (record { request = refl; counted = refl; numbers = filled_front ns; place = refl; count = refl; printed = refl; state = refl; lent = refl; journal = refl })
+  says_is a e = rw e (record { request = refl; counted = refl; numbers = array_front ns; place = refl; count = refl; printed = refl; state = refl; lent = refl; journal = refl })
 
   -- with the journal's bytes behind them
   pub prints_is : (a told : Said) (from size : ℕ) → told ≡ said_of q ns → a ≡ with_bytes told from size → from + size ≤ length j
@@ -34,7 +35,7 @@ module _ (q : Request) (ns : List ℕ) (s : Session) (lent : ℕ) (j : List ℕ)
   prints_is a told from size e f room =
       let left : size ≤ length (drop from j) = simp length-drop (omega arith) in
       rw (f, e)
-      (record { request = refl; counted = refl; numbers = filled_front ns; place = refl; count = sym (length-take-le size (drop from j) left); printed = refl; state = refl; lent = refl; journal = refl })
+      (record { request = refl; counted = refl; numbers = array_front ns; place = refl; count = sym (length-take-le size (drop from j) left); printed = refl; state = refl; lent = refl; journal = refl })
 
 -- a call's answer, which saw the first bytes of the journal
 pub called_is : (q : Request) (numbers : Reply → List ℕ) (v : Verdict) (before next : Session) (lent : ℕ) (j : List ℕ) (reply : Reply) (bytes : List ℕ) (a : Said) → Left v before (take lent j) reply next bytes → a ≡ said_of q (numbers reply)
@@ -47,6 +48,15 @@ bursts_is b n reply next lent j bytes a is e = rw (← is) (says_is asks.Burst (
 
 pub restores_is : (v : RestoredIn) (next : Session) (lent : ℕ) (j : List ℕ) (number at : ℕ) (a : Said) → RestoreLeft v number at next → a ≡ said_of asks.Restore (number ∷ at ∷ []) → Responds (restores v lent j) (response_of next lent a) j
 restores_is v next lent j number at a left e = rw (← left.answer, ← left.beside, ← left.state) (says_is asks.Restore (number ∷ at ∷ []) next lent j a e)
+
+-- the client's part of what is lent is as long as its place says
+pub stretch_size : (s : Session) (lent : ℕ) (j : List ℕ) (p : Part) (bytes : List ℕ) → p ≡ stretch_in s lent → p.start + p.size ≤ lent → lent ≤ length j
+    → bytes ≡ part_of (stretch_in s (length (take lent j))) (take lent j) → length bytes ≡ p.size
+stretch_size s lent j p bytes e inside low is =
+    let all : length (take lent j) ≡ lent = length-take-le lent j low in
+    let same : stretch_in s (length (take lent j)) ≡ p = ap (stretch_in s) all ∙ sym e in
+    let left : p.size ≤ length (drop p.start (take lent j)) = simp length-drop (omega (arith, all)) in
+    ap length (is ∙ ap (λ (q : Part). part_of q (take lent j)) same) ∙ length-take-le p.size (drop p.start (take lent j)) left
 
 -- values made of a request's numbers, place by place
 each_is : {A : Type 0} (make : ℕ → A) (n i : ℕ) (ns : List ℕ) (l : List A) → length l ≡ n → ((k : ℕ) (d : A) → k < n → slice_index_or l k d ≡ make (at ns (i + k))) → l ≡ each_from make n i ns

@@ -13,7 +13,7 @@ use Rattle.text.proofs.LineLaws.{decimal_most}
 use Rattle.requests.specs.declared.forms.Request.{Request}
 use Rattle.requests.specs.declared.forms.Request.TheVariants as asks
 use Rattle.requests.specs.Forms.{word_of}
-use Rattle.console.specs.Say.{filled, line_text}
+use Rattle.console.specs.Say.{in_array, line_text}
 
 -- the words of the table are short
 pub word_short : (q : Request) → length (word_of q) ≤ 8
@@ -42,8 +42,8 @@ put_is : (xs ys : List ℕ) (l r : Line) → IsLine xs l → length xs + length 
 put_is xs ys l r is fits put = put (rw is fits) ∙ ap (λ (z : List ℕ). z ++ ys) is
 
 -- the numbers come back out of their array
-pub filled_front : (ns : List ℕ) → take (length ns) (filled ns) ≡ ns
-filled_front ns = take-append_seam ns (replicate (22 - length ns) 0)
+pub array_front : (ns : List ℕ) → take (length ns) (in_array ns) ≡ ns
+array_front ns = take-append_seam ns (replicate (22 - length ns) 0)
 
 -- a line empty, with its word, with its numbers, and with a space behind them
 module _ (q : Request) (ns : List ℕ) (hex : ℕ) (e w l : Line) (few : length ns ≤ 22) (empty : shown e ≡ []) (named : Appended e (word_of q) w) (numbered : Appended w (spaced ns) l) where

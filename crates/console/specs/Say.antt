@@ -38,12 +38,12 @@ abbrev pub said_text : Said → List ℕ
 said_text a = line_text a.request (take a.count a.numbers) a.hex_count
 
 -- the numbers in their array: zeros behind them
-abbrev pub filled : List ℕ → List ℕ
-filled ns = ns ++ replicate (22 - length ns) 0
+abbrev pub in_array : List ℕ → List ℕ
+in_array ns = ns ++ replicate (22 - length ns) 0
 
 -- numbers alone, and with the journal's bytes behind them
 abbrev pub said_of : Request → List ℕ → Said
-said_of q ns = record { request = q; count = length ns; numbers = filled ns; hex_from = 0; hex_count = 0 }
+said_of q ns = record { request = q; count = length ns; numbers = in_array ns; hex_from = 0; hex_count = 0 }
 
 abbrev pub with_bytes : Said → ℕ → ℕ → Said
 with_bytes a from count = record { request = a.request; count = a.count; numbers = a.numbers; hex_from = from; hex_count = count }

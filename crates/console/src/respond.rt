@@ -8,7 +8,7 @@ ghost use Rattle.console.specs.Respond.{at, each_from, gap_from, offer_at, outco
 use crate::say::{Said, answer_said, burst_said, gaps_said, numbered, status_said, with_bytes};
 use bursts::burst::{Ended, take_offers};
 use checker::calls::{
-    answer_for, earliest, number_for, status, stretch_place, take_last_back, take_offer,
+    answer_for, earliest, number_for, status, stretch, stretch_place, take_last_back, take_offer,
     take_opening,
 };
 use datasheet::sheet::{self, Picoseconds};
@@ -136,9 +136,10 @@ impl Console<'_> {
     fn stretch(&self) -> Said
         ensures { (ns : List ℕ) → Answers asks.Stretch self.now ns result }
     {
-        let part = stretch_place(self.session, self.lent);
-        let said = numbered(Request::Stretch, &[part.size as u64]);
-        with_bytes(said, part.start, part.size)
+        let place = stretch_place(self.session, self.lent);
+        let size = stretch(self.session, &self.journal[..self.lent]).len();
+        let said = numbered(Request::Stretch, &[size as u64]);
+        with_bytes(said, place.start, size)
     }
 
     fn lend(&mut self, numbers: &[u64]) -> Said
