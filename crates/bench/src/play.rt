@@ -137,7 +137,13 @@ fn play(
         let whole = line.whole;
         let asked = parse_line(line.bytes, whole, file.is_some(), &mut numbers);
         let before = session.progress.records;
-        let response = respond(session, journal, lent, asked);
+        let response = respond(
+            session,
+            journal,
+            lent,
+            asked.request,
+            &numbers[..asked.count],
+        );
         if let Some(file) = file {
             let after = response.session.progress.records;
             file.keep(journal, before, after).map_err(Stop::Unkept)?;

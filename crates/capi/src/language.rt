@@ -41,7 +41,13 @@ pub extern "C" fn rossinhiu_console_5(
     ensures { Plays session journal.old line.now given journal.new out.old out.new result }
 {
     let asking = parse_line(line, given.ended != 0, given.in_file != 0, numbers);
-    let response = respond(session, journal, given.lent, asking);
+    let response = respond(
+        session,
+        journal,
+        given.lent,
+        asking.request,
+        &numbers[..asking.count],
+    );
     let said = response.said;
     let written = put_line(out, 0, &said_line(&said));
     LinePlayed {

@@ -14,7 +14,6 @@ use checker::calls::{
 use datasheet::sheet::{self, Picoseconds};
 use journal::records::Offer;
 use requests::forms::Request;
-use requests::requests::Asked;
 use restoring::restore::restore;
 use scan::timings::Timings;
 use session::state::Session;
@@ -213,15 +212,21 @@ impl Console<'_> {
 }
 
 // Calls see the first `lent` bytes of the journal, no more than there are; `restore`, `poke` and `bytes` see all of it.
-pub fn respond(session: Session, journal: &mut [u8], lent: usize, asking: Asked) -> Response
-    ensures { Responds (outcome session journal.old lent (asking_of asking.entry)) result journal.new }
+pub fn respond(
+    session: Session,
+    journal: &mut [u8],
+    lent: usize,
+    request: Request,
+    numbers: &[u64],
+) -> Response
+    ensures { Responds (outcome session journal.old lent (asking_of request numbers.now)) result journal.new }
 {
     let mut console = Console {
         session,
         lent: lent.min(journal.len()),
         journal,
     };
-    let said = console.perform(asking.request, asking.numbers);
+    let said = console.perform(request, numbers);
     Response {
         session: console.session,
         lent: console.lent,

@@ -8,6 +8,7 @@ use Prim.Native.Nat.{ℕ, suc, ◌+◌, ◌-◌, ◌≤◌, ◌<◌}
 use native.Mathlib.Numerals.{add-one}
 use native.Mathlib.Omega.{arith}
 use lib.ListN.{length, take, drop, get_or, set, drop_of_length-le}
+use Rattle.std.proofs.Common.{length-take-le}
 use lib.Seq.{drop-cons, take-suc-set}
 use lib.Dec.{eqb}
 use borrow.Author.Tests.{eq-eqb, ne_eqb, eqb-true, eqb-false, lt-ltb, le-ltb}
@@ -21,8 +22,9 @@ use Rattle.timing.specs.Kinds.{code_of, name_of}
 use Rattle.requests.specs.declared.forms.Form.{Form}
 use Rattle.requests.specs.declared.forms.Request.{Request}
 use Rattle.requests.specs.Words.{is_blank, is_empty, words}
-use Rattle.requests.specs.Forms.{form_of, place_at}
-use Rattle.requests.specs.Requests.{kinds, kind_index, kind_number, number_at, also, read_from, nothing, malformed, named, filled, asked_by, without_return, asked}
+use Rattle.requests.specs.declared.requests.Asked.{Asked}
+use Rattle.requests.specs.Forms.{form_of, place_at, is_whole}
+use Rattle.requests.specs.Requests.{kinds, kind_index, kind_number, number_at, also, read_from, IsRead, Asking, Asks, asking_of, nothing, malformed, named, filled, asked_by, without_return, asked}
 
 -- the first that passes is the first of those that pass
 pub first_of_filter : {X : Type 0} (p : X → Bool) (xs : List X) → find p xs ≡ slice_get (filter p xs) 0
@@ -80,20 +82,43 @@ onto_also ns n None = refl
 onto_also ns n (Some more) = ap Some (sym (append_assoc ns (n ∷ []) more))
 
 module _ (f : Form) (all : List (List ℕ)) (numbers : List ℕ) (i : ℕ) (is : read_from f 0 all ≡ onto (take i numbers) (read_from f i (drop i all))) where
-  pub read_end : i ≡ length all → Some (take i numbers) ≡ read_from f 0 all
+  pub read_end : i ≡ length all → i ≤ length numbers → IsRead (read_from f 0 all) (Some i) numbers
   unfolding read_from
-  read_end e = sym (is ∙ rw (drop_of_length-le all {i = i} (omega arith), append-nil (take i numbers)))
+  read_end e room =
+      let size : length (take i numbers) ≡ i = length-take-le i numbers room in
+      rw (is, drop_of_length-le all {i = i} (omega arith), append-nil (take i numbers), size) (refl, refl)
 
   module _ (w : List ℕ) (low : i < length all) (here : w ≡ get_or all i w) where
-    pub read_bad : None ≡ number_at (place_at f i) w → None ≡ read_from f 0 all
+    pub read_bad : None ≡ number_at (place_at f i) w → IsRead (read_from f 0 all) None numbers
     unfolding read_from
-    read_bad bad = sym (is ∙ rw (drop-cons all i w low, ← here, ← bad))
+    read_bad bad = rw (is, drop-cons all i w low, ← here, ← bad) refl
 
     pub read_next : (n : ℕ) → Some n ≡ number_at (place_at f i) w → i < length numbers
         → read_from f 0 all ≡ onto (take (i + 1) (set numbers i n)) (read_from f (i + 1) (drop (i + 1) all))
     unfolding read_from
     read_next n good room =
         is ∙ rw (drop-cons all i w low, ← here, ← good, add-one, take-suc-set numbers i n room) (onto_also (take i numbers) n (read_from f (suc i) (drop (suc i) all)))
+
+-- what asks nothing or is malformed has no numbers
+pub none_asked : (q : Request) (a : Asking) (r : Asked) (after : List ℕ) → a ≡ asking_of q [] → r ≡ record { request = q; count = 0 } → Asks a r after
+none_asked q a r after e is = rw (e, is) (record { request = refl; count = refl; numbers = refl })
+
+-- numbers that were read fill the request's places, or the line is malformed
+module _ (q : Request) (after : List ℕ) where
+  pub fills_whole : (read : Option (List ℕ)) (n : ℕ) → IsRead read (Some n) after → is_whole (form_of q) n ≡ true → Asks (filled q read) (record { request = q; count = n }) after
+  unfolding filled
+  fills_whole (Some ns) n is whole = let same : n ≡ length ns = cc in rw (rw same at whole) (record { request = refl; count = same; numbers = rw same is.1 })
+  fills_whole None n is whole = cc
+
+  pub fills_not : (read : Option (List ℕ)) (n : ℕ) → IsRead read (Some n) after → is_whole (form_of q) n ≡ false → filled q read ≡ malformed
+  unfolding filled
+  fills_not (Some ns) n is part = let same : n ≡ length ns = cc in rw (rw same at part)
+  fills_not None n is part = cc
+
+  pub fills_none : (read : Option (List ℕ)) → IsRead read None after → filled q read ≡ malformed
+  unfolding filled
+  fills_none (Some ns) is = cc
+  fills_none None is = refl
 
 -- the first word, and those behind it
 first_none : {X : Type 0} (ws : List X) → None ≡ slice_get ws 0 → ws ≡ []

@@ -90,9 +90,17 @@ cut_short (b ∷ bs) = malformed
 unfoldable pub asked : List ℕ → Bool → Bool → Asking
 asked line ended in_file = cond ended (whole line in_file) (cut_short line)
 
--- the program's answer
-abbrev pub asking_of : Asked → Asking
-asking_of r = record { request = r.request; numbers = r.numbers.now }
+-- a request with numbers
+abbrev pub asking_of : Request → List ℕ → Asking
+asking_of q ns = record { request = q; numbers = ns }
 
-abbrev pub Asks : Asking → Asked → Type 0
-Asks a r = asking_of r ≡ a
+-- how many numbers were read, where each word is one; they stand at the front of the array that was lent
+abbrev pub IsRead : Option (List ℕ) → Option ℕ → List ℕ → Type 0
+IsRead (Some ns) r after = (r ≡ Some (length ns)) × (take (length ns) after ≡ ns)
+IsRead None r after = r ≡ None
+
+-- THE PROGRAM'S ANSWER: the request, and its numbers at the front of the array that was lent
+pub record Asks (a : Asking) (r : Asked) (after : List ℕ) : Type 0 where
+  pub request : r.request ≡ a.request
+  pub count : r.count ≡ length a.numbers
+  pub numbers : take r.count after ≡ a.numbers

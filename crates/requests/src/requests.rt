@@ -1,19 +1,19 @@
 // What a line asks: a request, and the numbers that its words stand for.
-ghost use Rattle.std.specs.Prelude.{◌≡◌, ◌≤◌, [], length, drop};
+ghost use Rattle.std.specs.Prelude.{◌≡◌, ◌≤◌, length, drop};
 ghost use Rattle.std.specs.Option.{option_map};
 ghost use Rattle.std.specs.List.{slice_get};
 ghost use Rattle.requests.specs.Words.{words};
-ghost use Rattle.requests.specs.Requests.{number_at, read_from, kind_number, named, asked_by, asked, Asks};
+ghost use Rattle.requests.specs.Requests.{number_at, read_from, kind_number, IsRead, named, asked_by, asked, Asks};
 
 use crate::forms::{Form, Place, Request};
 use crate::words::{is_blank, number_of};
 use timing::kinds::CommandKind;
 
-// The numbers stand in the array that was lent.
+// A request; its numbers stand at the front of the array that was lent.
 #[derive(Clone, Copy)]
-pub struct Asked<'a> {
+pub struct Asked {
     pub request: Request,
-    pub numbers: &'a [u64],
+    pub count: usize,
 }
 
 const MAX_LINE: usize = 4096;
@@ -44,30 +44,27 @@ fn first_word(line: &[u8]) -> Option<&[u8]>
         .find(|word| !word.is_empty())
 }
 
-// The words behind the first, each read at its place of the form, if each is a number there.
-fn read_numbers<'a>(line: &[u8], form: Form, numbers: &'a mut [u64; 4096]) -> Option<&'a [u64]>
+// The words behind the first, each read at its place of the form; how many they are, if each is a number there.
+fn read_numbers(line: &[u8], form: Form, numbers: &mut [u64; 4096]) -> Option<usize>
     requires { length line.now ≤ 4096 }
-    ensures { option_map (λ read. read.now) result ≡ read_from form 0 (drop 1 (words line.now)) }
+    ensures { IsRead (read_from form 0 (drop 1 (words line.now))) result numbers.new }
 {
     let words = line
         .split(|byte| is_blank(*byte))
         .filter(|word| !word.is_empty());
-    // Counted, as the length handed back.
+    // Counted, as the number handed back.
     let mut count = 0;
     for word in words.skip(1) {
         numbers[count] = number_at(word, form.place_at(count))?;
         count += 1;
     }
-    Some(&numbers[..count])
+    Some(count)
 }
 
-fn without_numbers<'a>(request: Request) -> Asked<'a>
-    ensures { Asks (record { request = request; numbers = [] }) result }
+fn without_numbers(request: Request) -> Asked
+    ensures { result ≡ record { request = request; count = 0 } }
 {
-    Asked {
-        request,
-        numbers: &[],
-    }
+    Asked { request, count: 0 }
 }
 
 // The request of a first word, if it stands there: in a file some do not.
@@ -80,9 +77,9 @@ fn named(word: &[u8], in_file: bool) -> Request
     request.unwrap_or(Request::Malformed)
 }
 
-fn parse<'a>(line: &[u8], in_file: bool, numbers: &'a mut [u64; 4096]) -> Asked<'a>
+fn parse(line: &[u8], in_file: bool, numbers: &mut [u64; 4096]) -> Asked
     requires { length line.now ≤ 4096 }
-    ensures { Asks (asked_by in_file (words line.now)) result }
+    ensures { Asks (asked_by in_file (words line.now)) result numbers.new }
 {
     let Some(word) = first_word(line) else {
         return without_numbers(Request::Nothing);
@@ -93,20 +90,15 @@ fn parse<'a>(line: &[u8], in_file: bool, numbers: &'a mut [u64; 4096]) -> Asked<
     let request = named(word, in_file);
     let form = request.form();
     match read_numbers(line, form, numbers) {
-        Some(numbers) if form.is_whole(numbers.len()) => Asked { request, numbers },
+        Some(count) if form.is_whole(count) => Asked { request, count },
         _ => without_numbers(Request::Malformed),
     }
 }
 
 // A line as it came. What no newline ended was cut short. A carriage return counts for a line's length, and is ignored at its end. Where
 // the journal is a file, nothing may damage it or wind it back.
-pub fn parse_line<'a>(
-    line: &[u8],
-    ended: bool,
-    in_file: bool,
-    numbers: &'a mut [u64; 4096],
-) -> Asked<'a>
-    ensures { Asks (asked line.now ended in_file) result }
+pub fn parse_line(line: &[u8], ended: bool, in_file: bool, numbers: &mut [u64; 4096]) -> Asked
+    ensures { Asks (asked line.now ended in_file) result numbers.new }
 {
     if line.is_empty() {
         return without_numbers(Request::Nothing);

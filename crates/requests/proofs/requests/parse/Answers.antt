@@ -1,40 +1,37 @@
 -- `parse` meets its contract.
 use mathlib.Core.Path.{sym, ◌∙◌}
 use Rattle.requests.specs.Words.{words}
-use Rattle.requests.specs.Requests.{filled}
-use Rattle.requests.proofs.RequestLaws.{asked_none, asked_comment, asked_named}
+use Rattle.requests.proofs.RequestLaws.{none_asked, fills_whole, fills_not, fills_none, asked_none, asked_comment, asked_named}
 use Rattle.requests.proofs.requests.parse.Goals as goal
 use Rattle.requests.proofs.requests.parse.Goals.{in_default-read_numbers-via-in-Some-read_numbers+else-is_whole, in_default-read_numbers-via-in_default-read_numbers}
 
 pub returns-in_default : goal.returns-in_default
-returns-in_default c = let a = c.args in c.without_numbers.ensures ∙ sym (asked_none a.in_file (words a.line.now) c.in_default.ensures)
+returns-in_default c = let a = c.args in none_asked _ _ _ _ (asked_none a.in_file (words a.line.now) c.in_default.ensures) c.without_numbers.ensures
 
 pub returns-then-starts_with : goal.returns-then-starts_with
 returns-then-starts_with c =
     let a = c.args in
-    c.without_numbers-then-starts_with.ensures
-    ∙ sym (asked_comment a.in_file (words a.line.now) c.in-Some.word.now c.in-Some.ensures (sym c.starts_with.ensures.value ∙ c.if-starts_with.true))
+    none_asked _ _ _ _ (asked_comment a.in_file (words a.line.now) c.in-Some.word.now c.in-Some.ensures (sym c.starts_with.ensures.value ∙ c.if-starts_with.true)) c.without_numbers-then-starts_with.ensures
 
 pub returns-in-Some-read_numbers : goal.returns-in-Some-read_numbers
-unfolding filled
 returns-in-Some-read_numbers c =
     let a = c.args in
+    let q = c.named-request.result in
     let read = rw c.form-form.ensures at c.in-Some-read_numbers.ensures in
     let whole = rw c.form-form.ensures at (sym c.is_whole.ensures ∙ c.if-is_whole.true) in
-    sym (asked_named a.in_file (words a.line.now) c.in-Some.word.now c.in-Some.ensures (sym c.starts_with.ensures.value ∙ c.if-starts_with.false) c.named-request.result c.named-request.ensures ∙ rw (← read, whole))
+    rw (asked_named a.in_file (words a.line.now) c.in-Some.word.now c.in-Some.ensures (sym c.starts_with.ensures.value ∙ c.if-starts_with.false) q c.named-request.ensures) (fills_whole q _ _ _ read whole)
 
 pub returns-in_default-read_numbers : goal.returns-in_default-read_numbers
-unfolding filled
 returns-in_default-read_numbers c =
     let a = c.args in
-    c.without_numbers-in_default-read_numbers.ensures
-    ∙ sym (asked_named a.in_file (words a.line.now) c.in-Some.word.now c.in-Some.ensures (sym c.starts_with.ensures.value ∙ c.if-starts_with.false) c.named-request.result c.named-request.ensures
+    let q = c.named-request.result in
+    none_asked _ _ _ _
+    (asked_named a.in_file (words a.line.now) c.in-Some.word.now c.in-Some.ensures (sym c.starts_with.ensures.value ∙ c.if-starts_with.false) q c.named-request.ensures
     ∙ (elim c.in_default-read_numbers.branch [
       | in_default-read_numbers-via-in-Some-read_numbers+else-is_whole w ↦
           let read = rw c.form-form.ensures at w.in-Some-read_numbers.ensures in
           let part = rw c.form-form.ensures at (sym w.is_whole.ensures ∙ w.if-is_whole.false) in
-          rw (← read, part)
-      | in_default-read_numbers-via-in_default-read_numbers w ↦
-          let none = rw c.form-form.ensures at w.in_default-read_numbers.ensures in
-          rw (← none)
+          fills_not q _ _ _ read part
+      | in_default-read_numbers-via-in_default-read_numbers w ↦ fills_none q _ _ (rw c.form-form.ensures at w.in_default-read_numbers.ensures)
     ]))
+    c.without_numbers-in_default-read_numbers.ensures

@@ -3,19 +3,18 @@ use mathlib.Core.Path.{sym, ◌∙◌}
 use native.Mathlib.Omega.{arith}
 use borrow.Author.Tests.{eqb-true, eqb-false}
 use lib.ListN.{length}
-use Rattle.requests.proofs.RequestLaws.{asked_empty, asked_bad, asked_whole, stripped}
+use Rattle.requests.proofs.RequestLaws.{none_asked, asked_empty, asked_bad, asked_whole, stripped}
 use Rattle.requests.proofs.requests.parse_line.Goals as goal
 
 pub returns-then-is_empty : goal.returns-then-is_empty
 returns-then-is_empty c =
     let a = c.args in
-    c.without_numbers.ensures ∙ sym (asked_empty a.in_file a.line.now a.ended (eqb-true (length a.line.now) 0 (sym c.is_empty.ensures ∙ c.if-is_empty.true)))
+    none_asked _ _ _ _ (asked_empty a.in_file a.line.now a.ended (eqb-true (length a.line.now) 0 (sym c.is_empty.ensures ∙ c.if-is_empty.true))) c.without_numbers.ensures
 
 pub returns-then-not-ended : goal.returns-then-not-ended
 returns-then-not-ended c =
     let a = c.args in
-    c.without_numbers-then-not-ended.ensures
-    ∙ sym (asked_bad a.in_file a.line.now a.ended (eqb-false (length a.line.now) 0 (sym c.is_empty.ensures ∙ c.if-is_empty.false)) c.then-not-ended.either)
+    none_asked _ _ _ _ (asked_bad a.in_file a.line.now a.ended (eqb-false (length a.line.now) 0 (sym c.is_empty.ensures ∙ c.if-is_empty.false)) c.then-not-ended.either) c.without_numbers-then-not-ended.ensures
 
 pub returns : goal.returns
 returns c =

@@ -58,4 +58,4 @@ returns c =
     c.filter-words.ensures.closure (λ x b q k. search (rules, tests))))
     c.skip-word-items.ensures.count))
     l.yielded _ l.yielded_by _ _ c.in-None.is c.next.ensures.steps in
-    read_end c.args.form _ l.numbers l.count l.invariant.2 (l.invariant.0 ∙ t.1)
+    read_end c.args.form _ l.numbers l.count l.invariant.2 (l.invariant.0 ∙ t.1) (omega (arith, l.invariant.0, t.1, l.invariant.1, length-drop 1 (words c.args.line.now), words_most c.args.line.now, c.requires))
