@@ -3,7 +3,7 @@ use mathlib.Core.Path.{◌≡◌, refl, sym, ◌∙◌, ap}
 use mathlib.Core.Bool.{Bool, true, false, cond, not, ◌&&◌, and-true}
 use mathlib.Core.Logic.{◌⊎◌, inl, inr}
 use denote.Ref.{Bor}
-use mathlib.Core.List.{List, [], ◌∷◌, ◌++◌, append_assoc, append-nil}
+use mathlib.Core.List.{List, [], ◌∷◌, ◌++◌, map, append_assoc, append-nil}
 use Prim.Native.Nat.{ℕ, suc, ◌+◌, ◌-◌, ◌≤◌, ◌<◌}
 use native.Mathlib.Numerals.{add-one}
 use native.Mathlib.Omega.{arith}
@@ -21,9 +21,10 @@ use Rattle.timing.specs.declared.kinds.CommandKind.TheVariants.{Act, Rd, Wr, Pre
 use Rattle.timing.specs.Kinds.{code_of, name_of}
 use Rattle.requests.specs.declared.forms.Form.{Form}
 use Rattle.requests.specs.declared.forms.Request.{Request}
+use Rattle.requests.specs.declared.forms.Request.TheVariants as asks
 use Rattle.requests.specs.Words.{is_blank, is_empty, words}
 use Rattle.requests.specs.declared.requests.Asked.{Asked}
-use Rattle.requests.specs.Forms.{form_of, place_at, is_whole}
+use Rattle.requests.specs.Forms.{Row, row_of, form_of, place_at, is_whole}
 use Rattle.requests.specs.Requests.{kinds, kind_index, kind_number, number_at, also, read_from, IsRead, Asking, Asks, asking_of, nothing, malformed, named, filled, asked_by, without_return, asked}
 
 -- the first that passes is the first of those that pass
@@ -57,6 +58,32 @@ unfolding kind_index
 kind_found word =
     let is : CommandKind → Bool = λ k. bytes_eq (name_of k) word in
     at_place (is Act) (is Rd) (is Wr) (is Prepb) (is Preab) (is Refab) (is Refpb)
+
+-- a request that is found by its row is that of the row found
+row_request : (q : Request) → (row_of q).request ≡ q
+row_request asks.Nothing = refl
+row_request asks.Malformed = refl
+row_request asks.Open = refl
+row_request asks.Offer = refl
+row_request asks.Ask = refl
+row_request asks.Back = refl
+row_request asks.Status = refl
+row_request asks.Stretch = refl
+row_request asks.Lend = refl
+row_request asks.Restore = refl
+row_request asks.Poke = refl
+row_request asks.Bytes = refl
+row_request asks.Gaps = refl
+row_request asks.Burst = refl
+
+pub row_found : (p : Row → Bool) (qs : List Request) → option_map (λ r. r.request) (find p (map row_of qs)) ≡ find (λ q. p (row_of q)) qs
+row_found p [] = refl
+row_found p (q ∷ qs) = go (p (row_of q)) (row_found p qs)
+  where
+    go : (t : Bool) → option_map (λ r. r.request) (find p (map row_of qs)) ≡ find (λ q. p (row_of q)) qs
+        → option_map (λ r. r.request) (cond t (Some (row_of q)) (find p (map row_of qs))) ≡ cond t (Some q) (find (λ q. p (row_of q)) qs)
+    go true e = ap Some (row_request q)
+    go false e = e
 
 some_word : (b : ℕ) (bs : List ℕ) → is_empty (b ∷ bs) ≡ false
 some_word b bs = ne_eqb (length (b ∷ bs)) 0 (λ e. absurd (omega arith))

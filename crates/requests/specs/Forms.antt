@@ -8,8 +8,9 @@ use Rattle.requests.specs.declared.forms.Place.TheVariants.{Kind, UpTo}
 use Rattle.requests.specs.declared.forms.Request.{Request}
 use Rattle.requests.specs.declared.forms.Request.TheVariants as asks
 
--- a word, and what stands behind it
+-- a request, its word, and what stands behind it
 pub record Row : Type 0 where
+  pub request : Request
   pub word : List ℕ
   pub form : Form
 
@@ -31,25 +32,26 @@ abbrev pub form : ℕ → ℕ → ℕ → ℕ → ℕ → Bool → Bool → Form
 form kinds longs words halves bytes times where' =
     record { kinds = kinds; longs = longs; words = words; halves = halves; bytes = bytes; again = times; in_file = where' }
 
-abbrev pub row : String → ℕ → ℕ → ℕ → ℕ → ℕ → Bool → Bool → Row
-row word kinds longs words halves bytes times where' = record { word = text word; form = form kinds longs words halves bytes times where' }
+abbrev pub row : String → Request → ℕ → ℕ → ℕ → ℕ → ℕ → Bool → Bool → Row
+row word request kinds longs words halves bytes times where' =
+    record { request = request; word = text word; form = form kinds longs words halves bytes times where' }
 
 -- a request's row: its word; how many kinds stand behind it, and how many numbers of 64, 32, 16 and 8 bits
 abbrev pub row_of : Request → Row
-row_of asks.Nothing = row "" 0 0 0 0 0 once anywhere
-row_of asks.Malformed = row "?" 0 0 0 0 0 once anywhere
-row_of asks.Open = row "open" 0 3 1 20 0 once anywhere
-row_of asks.Offer = row "offer" 1 3 0 0 0 once anywhere
-row_of asks.Ask = row "ask" 1 2 0 0 0 once anywhere
-row_of asks.Back = row "back" 0 0 0 0 0 once anywhere
-row_of asks.Status = row "status" 0 0 0 0 0 once anywhere
-row_of asks.Stretch = row "stretch" 0 0 0 0 0 once anywhere
-row_of asks.Lend = row "lend" 0 1 0 0 0 once anywhere
-row_of asks.Restore = row "restore" 0 1 0 0 0 once in_memory
-row_of asks.Poke = row "poke" 0 1 0 0 1 once in_memory
-row_of asks.Bytes = row "bytes" 0 2 0 0 0 once anywhere
-row_of asks.Gaps = row "gaps" 0 21 0 0 0 once anywhere
-row_of asks.Burst = row "burst" 1 3 0 0 0 again anywhere
+row_of asks.Nothing = row "" asks.Nothing 0 0 0 0 0 once anywhere
+row_of asks.Malformed = row "?" asks.Malformed 0 0 0 0 0 once anywhere
+row_of asks.Open = row "open" asks.Open 0 3 1 20 0 once anywhere
+row_of asks.Offer = row "offer" asks.Offer 1 3 0 0 0 once anywhere
+row_of asks.Ask = row "ask" asks.Ask 1 2 0 0 0 once anywhere
+row_of asks.Back = row "back" asks.Back 0 0 0 0 0 once anywhere
+row_of asks.Status = row "status" asks.Status 0 0 0 0 0 once anywhere
+row_of asks.Stretch = row "stretch" asks.Stretch 0 0 0 0 0 once anywhere
+row_of asks.Lend = row "lend" asks.Lend 0 1 0 0 0 once anywhere
+row_of asks.Restore = row "restore" asks.Restore 0 1 0 0 0 once in_memory
+row_of asks.Poke = row "poke" asks.Poke 0 1 0 0 1 once in_memory
+row_of asks.Bytes = row "bytes" asks.Bytes 0 2 0 0 0 once anywhere
+row_of asks.Gaps = row "gaps" asks.Gaps 0 21 0 0 0 once anywhere
+row_of asks.Burst = row "burst" asks.Burst 1 3 0 0 0 again anywhere
 
 unfoldable pub word_of : Request → List ℕ
 word_of q = (row_of q).word

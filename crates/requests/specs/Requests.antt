@@ -13,7 +13,7 @@ use Rattle.requests.specs.declared.forms.Request.{Request}
 use Rattle.requests.specs.declared.forms.Request.TheVariants as asks
 use Rattle.requests.specs.declared.requests.Asked.{Asked}
 use Rattle.requests.specs.Words.{words, index_of, number_of}
-use Rattle.requests.specs.Forms.{named_requests, word_of, form_of, place_at, is_whole}
+use Rattle.requests.specs.Forms.{Row, table, form_of, place_at, is_whole}
 
 -- a kind's name in capitals stands for its code number
 abbrev pub kinds : List CommandKind
@@ -55,13 +55,13 @@ nothing = record { request = asks.Nothing; numbers = [] }
 abbrev pub malformed : Asking
 malformed = record { request = asks.Malformed; numbers = [] }
 
--- a form that is for memory only does not stand where the journal is a file
-abbrev pub stands : Bool → Request → Bool
-stands in_file q = not in_file || (form_of q).in_file
+-- a row that is for memory only does not stand where the journal is a file
+abbrev pub stands : Bool → Row → Bool
+stands in_file r = not in_file || r.form.in_file
 
--- the request of a first word; it is malformed if none stands there
+-- the request of the table's row with a first word; it is malformed if none stands there
 unfoldable pub named : Bool → List ℕ → Request
-named in_file word = unwrap_or (find (λ q. bytes_eq (word_of q) word && stands in_file q) named_requests) asks.Malformed
+named in_file word = unwrap_or (option_map (λ r. r.request) (find (λ r. bytes_eq r.word word && stands in_file r) table)) asks.Malformed
 
 -- the numbers fill the request's places, or the line is malformed
 unfoldable pub filled : Request → Option (List ℕ) → Asking
