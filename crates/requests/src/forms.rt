@@ -82,7 +82,7 @@ impl Request {
     }
 
     #[tactic(auto, unfolding(crate::specs::Forms::form_of))]
-    pub(crate) fn form(self) -> Form
+    pub fn form(self) -> Form
         ensures { result ≡ form_of self }
     {
         match self {
@@ -180,7 +180,7 @@ impl Form {
     }
 
     #[tactic(auto, unfolding(crate::specs::Forms::place_at))]
-    pub(crate) fn place_at(self, i: usize) -> Place
+    pub fn place_at(self, i: usize) -> Place
         ensures { result ≡ place_at self i }
     {
         self.place_in(self.index_in(i))
@@ -188,7 +188,7 @@ impl Form {
 
     // Whether so many numbers fill the places once, or in whole groups.
     #[tactic(auto, unfolding(crate::specs::Forms::is_whole))]
-    pub(crate) fn is_whole(self, count: usize) -> bool
+    pub fn is_whole(self, count: usize) -> bool
         ensures { result ≡ is_whole self count }
     {
         let filled = if self.again { 0 } else { self.size() };
