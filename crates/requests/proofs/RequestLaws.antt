@@ -12,8 +12,8 @@ use Rattle.std.proofs.Common.{length-take-le}
 use lib.Seq.{drop-cons, take-suc-set}
 use lib.Dec.{eqb}
 use borrow.Author.Tests.{eq-eqb, ne_eqb, eqb-true, eqb-false, lt-ltb, le-ltb}
-use Rattle.std.specs.Prelude.{slice_get, nat_lt, Option, Some, None}
-use Rattle.std.specs.List.{filter, find, slice_split, onto_first}
+use Rattle.std.specs.Prelude.{nat_lt, Option, Some, None}
+use Rattle.std.specs.List.{find}
 use Rattle.std.specs.Option.{MatchOption, option_map, unwrap_or}
 use Rattle.std.specs.Str.{bytes_eq}
 use Rattle.timing.specs.declared.kinds.CommandKind.{CommandKind}
@@ -22,19 +22,10 @@ use Rattle.timing.specs.Kinds.{code_of, name_of}
 use Rattle.requests.specs.declared.forms.Form.{Form}
 use Rattle.requests.specs.declared.forms.Request.{Request}
 use Rattle.requests.specs.declared.forms.Request.TheVariants as asks
-use Rattle.requests.specs.Words.{is_blank, is_empty, words}
+use Rattle.requests.specs.Words.{words}
 use Rattle.requests.specs.declared.requests.Asked.{Asked}
 use Rattle.requests.specs.Forms.{Row, row_of, form_of, place_at, is_whole}
 use Rattle.requests.specs.Requests.{kinds, kind_index, kind_number, number_at, also, read_from, IsRead, Asking, Asks, asking_of, nothing, malformed, named, filled, asked_by, without_return, asked}
-
--- the first that passes is the first of those that pass
-pub first_of_filter : {X : Type 0} (p : X → Bool) (xs : List X) → find p xs ≡ slice_get (filter p xs) 0
-first_of_filter p [] = refl
-first_of_filter p (x ∷ xs) = go (p x) (first_of_filter p xs)
-  where
-    go : (t : Bool) → find p xs ≡ slice_get (filter p xs) 0 → cond t (Some x) (find p xs) ≡ slice_get (cond t (x ∷ filter p xs) (filter p xs)) 0
-    go true e = refl
-    go false e = e
 
 pub option_map_same : {X : Type 0} (o : Option X) → option_map (λ x. x) o ≡ o
 option_map_same None = refl
@@ -85,21 +76,6 @@ row_found p (q ∷ qs) = go (p (row_of q)) (row_found p qs)
     go true e = ap Some (row_request q)
     go false e = e
 
-some_word : (b : ℕ) (bs : List ℕ) → is_empty (b ∷ bs) ≡ false
-some_word b bs = ne_eqb (length (b ∷ bs)) 0 (λ e. absurd (omega arith))
-
--- a line has no more words than bytes
-pub words_most : (line : List ℕ) → length (words line) ≤ length line
-words_most [] = omega arith
-words_most (b ∷ bs) = go (is_blank b) (slice_split is_blank bs) (words_most bs)
-  where
-    go : (t : Bool) (parts : List (List ℕ)) → length (filter (λ w. not (is_empty w)) parts) ≤ length bs
-        → length (filter (λ w. not (is_empty w)) (cond t ([] ∷ parts) (onto_first b parts))) ≤ suc (length bs)
-    go true parts most = omega arith
-    go false [] most = omega arith
-    go false ([] ∷ parts) most = omega arith
-    go false ((c ∷ cs) ∷ parts) most = let fewer = rw (some_word c cs) at most in rw (some_word b (c ∷ cs)) (omega arith)
-
 -- numbers read so far, before those still to be read
 abbrev pub onto : List ℕ → Option (List ℕ) → Option (List ℕ)
 onto ns more = option_map (λ m. ns ++ m) more
@@ -108,23 +84,21 @@ onto_also : (ns : List ℕ) (n : ℕ) (r : Option (List ℕ)) → onto ns (also 
 onto_also ns n None = refl
 onto_also ns n (Some more) = ap Some (sym (append_assoc ns (n ∷ []) more))
 
-module _ (f : Form) (all : List (List ℕ)) (numbers : List ℕ) (i : ℕ) (is : read_from f 0 all ≡ onto (take i numbers) (read_from f i (drop i all))) where
-  pub read_end : i ≡ length all → i ≤ length numbers → IsRead (read_from f 0 all) (Some i) numbers
+module _ (f : Form) (all rest : List (List ℕ)) (numbers : List ℕ) (i : ℕ) (is : read_from f 0 all ≡ onto (take i numbers) (read_from f i rest)) where
+  pub read_end : rest ≡ [] → i ≤ length numbers → IsRead (read_from f 0 all) (Some i) numbers
   unfolding read_from
   read_end e room =
       let size : length (take i numbers) ≡ i = length-take-le i numbers room in
-      rw (is, drop_of_length-le all {i = i} (omega arith), append-nil (take i numbers), size) (refl, refl)
+      rw (is, e, append-nil (take i numbers), size) (refl, refl)
 
-  module _ (w : List ℕ) (low : i < length all) (here : w ≡ get_or all i w) where
+  module _ (w : List ℕ) (later : List (List ℕ)) (e : rest ≡ w ∷ later) where
     pub read_bad : None ≡ number_at (place_at f i) w → IsRead (read_from f 0 all) None numbers
     unfolding read_from
-    read_bad bad = rw (is, drop-cons all i w low, ← here, ← bad) refl
+    read_bad bad = rw (is, e, ← bad) refl
 
-    pub read_next : (n : ℕ) → Some n ≡ number_at (place_at f i) w → i < length numbers
-        → read_from f 0 all ≡ onto (take (i + 1) (set numbers i n)) (read_from f (i + 1) (drop (i + 1) all))
+    pub read_next : (n : ℕ) → Some n ≡ number_at (place_at f i) w → i < length numbers → read_from f 0 all ≡ onto (take (i + 1) (set numbers i n)) (read_from f (i + 1) later)
     unfolding read_from
-    read_next n good room =
-        is ∙ rw (drop-cons all i w low, ← here, ← good, add-one, take-suc-set numbers i n room) (onto_also (take i numbers) n (read_from f (suc i) (drop (suc i) all)))
+    read_next n good room = is ∙ rw (e, ← good, add-one, take-suc-set numbers i n room) (onto_also (take i numbers) n (read_from f (suc i) later))
 
 -- what asks nothing or is malformed has no numbers
 pub none_asked : (q : Request) (a : Asking) (r : Asked) (after : List ℕ) → a ≡ asking_of q [] → r ≡ record { request = q; count = 0 } → Asks a r after
@@ -147,15 +121,7 @@ module _ (q : Request) (after : List ℕ) where
   fills_none (Some ns) is = cc
   fills_none None is = refl
 
--- the first word, and those behind it
-first_none : {X : Type 0} (ws : List X) → None ≡ slice_get ws 0 → ws ≡ []
-first_none [] e = refl
-first_none (w ∷ ws) e = cc
-
-first_some : {X : Type 0} (ws : List X) (w : X) → Some w ≡ slice_get ws 0 → ws ≡ w ∷ drop 1 ws
-first_some [] w e = cc
-first_some (v ∷ ws) w e = cc
-
+-- the first word
 is_comment : (w : List ℕ) → bytes_eq (35 ∷ []) (take 1 w) ≡ eqb (get_or w 0 0) 35
 is_comment [] = refl
 is_comment (b ∷ bs) = go (eqb 35 b) refl
@@ -165,18 +131,18 @@ is_comment (b ∷ bs) = go (eqb 35 b) refl
     go false e = sym (ne_eqb b 35 (λ same. eqb-false 35 b e (sym same)))
 
 module _ (in_file : Bool) (ws : List (List ℕ)) where
-  pub asked_none : None ≡ slice_get ws 0 → asked_by in_file ws ≡ nothing
+  pub asked_none : ws ≡ [] → asked_by in_file ws ≡ nothing
   unfolding asked_by
-  asked_none e = rw (first_none ws e)
+  asked_none e = rw e
 
-  module _ (w : List ℕ) (first : Some w ≡ slice_get ws 0) where
+  module _ (w : List ℕ) (later : List (List ℕ)) (first : ws ≡ w ∷ later) where
     pub asked_comment : bytes_eq (35 ∷ []) (take 1 w) ≡ true → asked_by in_file ws ≡ nothing
     unfolding asked_by
-    asked_comment e = rw (first_some ws w first, ← is_comment w, e)
+    asked_comment e = rw (first, ← is_comment w, e)
 
-    pub asked_named : bytes_eq (35 ∷ []) (take 1 w) ≡ false → (q : Request) → q ≡ named in_file w → asked_by in_file ws ≡ filled q (read_from (form_of q) 0 (drop 1 ws))
+    pub asked_named : bytes_eq (35 ∷ []) (take 1 w) ≡ false → (q : Request) → q ≡ named in_file w → asked_by in_file ws ≡ filled q (read_from (form_of q) 0 later)
     unfolding asked_by
-    asked_named plain q e = ap (asked_by in_file) (first_some ws w first) ∙ rw (← is_comment w, plain, ← e)
+    asked_named plain q e = ap (asked_by in_file) first ∙ rw (← is_comment w, plain, ← e)
 
 -- a line by its bytes: none, cut short or too long, and of at most 4,096 with its carriage return
 module _ (in_file : Bool) where

@@ -1,7 +1,8 @@
 -- A line's words, and words as numbers.
-use Rattle.std.specs.Prelude.{Bool, cond, not, ◌&&◌, ◌||◌, List, [], ◌∷◌, ℕ, ◌+◌, ◌-◌, ◌*◌, eqb, leb, length, Option, Some, None}
+use Rattle.std.specs.Prelude.{◌≡◌, ◌<◌, Bool, cond, not, ◌&&◌, ◌||◌, List, [], ◌∷◌, ℕ, ◌+◌, ◌-◌, ◌*◌, eqb, leb, length, Option, Some, None}
 use Rattle.std.specs.List.{filter, list_all, position, slice_split}
 use Rattle.std.specs.Str.{bytes_eq}
+use Rattle.std.specs.Borrow.{Bor}
 
 -- a space or a tab
 abbrev pub is_blank : ℕ → Bool
@@ -16,6 +17,11 @@ is_empty word = eqb (length word) 0
 -- THE WORDS OF A LINE: what stands between its blanks, where anything does
 abbrev pub words : List ℕ → List (List ℕ)
 words line = filter (λ w. not (is_empty w)) (slice_split is_blank line)
+
+-- the first word and what stands behind it, if a word is left
+abbrev pub TakesWord : List ℕ → Option (Bor (List ℕ) × Bor (List ℕ)) → Type 0
+TakesWord line None = words line ≡ []
+TakesWord line (Some part) = (words line ≡ part.0.now ∷ words part.1.now) × (length part.1.now < length line)
 
 -- decimal digits, and what they come to behind a value
 abbrev pub is_digit : ℕ → Bool

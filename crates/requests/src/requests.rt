@@ -1,12 +1,11 @@
 // What a line asks: a request, and the numbers that its words stand for.
-ghost use Rattle.std.specs.Prelude.{◌≡◌, ◌≤◌, length, drop};
+ghost use Rattle.std.specs.Prelude.{◌≡◌, ◌≤◌, length};
 ghost use Rattle.std.specs.Option.{option_map};
-ghost use Rattle.std.specs.List.{slice_get};
 ghost use Rattle.requests.specs.Words.{words};
 ghost use Rattle.requests.specs.Requests.{number_at, read_from, kind_number, IsRead, named, asked_by, asked, Asks};
 
 use crate::forms::{Form, Place, Request};
-use crate::words::{is_blank, number_of};
+use crate::words::{number_of, split_word};
 use timing::kinds::CommandKind;
 
 // A request; its numbers stand at the front of the array that was lent.
@@ -37,26 +36,17 @@ fn number_at(word: &[u8], place: Place) -> Option<u64>
     }
 }
 
-fn first_word(line: &[u8]) -> Option<&[u8]>
-    ensures { option_map (λ word. word.now) result ≡ slice_get (words line.now) 0 }
-{
-    line.split(|byte| is_blank(*byte))
-        .find(|word| !word.is_empty())
-}
-
-// The words behind the first, each read at its place of the form; how many they are, if each is a number there.
+// The words of a line, each read at its place of the form; how many they are, if each is a number there.
 fn read_numbers(line: &[u8], form: Form, numbers: &mut [u64; 4096]) -> Option<usize>
     requires { length line.now ≤ 4096 }
-    ensures { IsRead (read_from form 0 (drop 1 (words line.now))) result numbers.new }
+    ensures { IsRead (read_from form 0 (words line.now)) result numbers.new }
 {
-    let words = line
-        .split(|byte| is_blank(*byte))
-        .filter(|word| !word.is_empty());
-    // Counted, as the number handed back.
+    let mut rest = line;
     let mut count = 0;
-    for word in words.skip(1) {
+    while let Some((word, behind)) = split_word(rest) {
         numbers[count] = number_at(word, form.place_at(count))?;
         count += 1;
+        rest = behind;
     }
     Some(count)
 }
@@ -81,7 +71,7 @@ fn parse(line: &[u8], in_file: bool, numbers: &mut [u64; 4096]) -> Asked
     requires { length line.now ≤ 4096 }
     ensures { Asks (asked_by in_file (words line.now)) result numbers.new }
 {
-    let Some(word) = first_word(line) else {
+    let Some((word, rest)) = split_word(line) else {
         return without_numbers(Request::Nothing);
     };
     if word.starts_with(b"#") {
@@ -89,7 +79,7 @@ fn parse(line: &[u8], in_file: bool, numbers: &mut [u64; 4096]) -> Asked
     }
     let request = named(word, in_file);
     let form = request.form();
-    match read_numbers(line, form, numbers) {
+    match read_numbers(rest, form, numbers) {
         Some(count) if form.is_whole(count) => Asked { request, count },
         _ => without_numbers(Request::Malformed),
     }

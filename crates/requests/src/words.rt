@@ -1,12 +1,36 @@
 // A line taken apart: words separated by spaces and tabs, and words as numbers.
 ghost use Rattle.std.specs.Prelude.{◌≡◌, cond, not, ◌-◌, Some, None};
 ghost use Rattle.std.specs.List.{position};
-ghost use Rattle.requests.specs.Words.{is_blank, in_line, is_digit, number_of};
+ghost use Rattle.requests.specs.Words.{is_blank, in_line, TakesWord, is_digit, number_of};
 
-pub(crate) fn is_blank(byte: u8) -> bool
+fn is_blank(byte: u8) -> bool
     ensures { result ≡ is_blank byte }
 {
     matches!(byte, b' ' | b'\t')
+}
+
+fn word_start(line: &[u8]) -> Option<usize>
+    ensures { result ≡ position (λ b. not (is_blank b)) line.now }
+{
+    line.iter().position(|byte| !is_blank(*byte))
+}
+
+fn word_end(line: &[u8]) -> Option<usize>
+    ensures { result ≡ position is_blank line.now }
+{
+    line.iter().position(|byte| is_blank(*byte))
+}
+
+// The first word of a line and what stands behind it, if a word is left.
+pub fn split_word(line: &[u8]) -> Option<(&[u8], &[u8])>
+    ensures { TakesWord line.now result }
+{
+    let start = word_start(line)?;
+    let line = &line[start..];
+    let Some(end) = word_end(line) else {
+        return Some((line, &[]));
+    };
+    Some((&line[..end], &line[end + 1..]))
 }
 
 // How long the line is that stands first, if a newline ends it.

@@ -11,7 +11,7 @@ returns-in_default c = let a = c.args in none_asked _ _ _ _ (asked_none a.in_fil
 pub returns-then-starts_with : goal.returns-then-starts_with
 returns-then-starts_with c =
     let a = c.args in
-    none_asked _ _ _ _ (asked_comment a.in_file (words a.line.now) c.in-Some.word.now c.in-Some.ensures (sym c.starts_with.ensures.value ∙ c.if-starts_with.true)) c.without_numbers-then-starts_with.ensures
+    none_asked _ _ _ _ (asked_comment a.in_file (words a.line.now) c.in-Some.word.now _ c.in-Some.ensures.0 (sym c.starts_with.ensures.value ∙ c.if-starts_with.true)) c.without_numbers-then-starts_with.ensures
 
 pub returns-in-Some-read_numbers : goal.returns-in-Some-read_numbers
 returns-in-Some-read_numbers c =
@@ -19,14 +19,14 @@ returns-in-Some-read_numbers c =
     let q = c.named-request.result in
     let read = rw c.form-form.ensures at c.in-Some-read_numbers.ensures in
     let whole = rw c.form-form.ensures at (sym c.is_whole.ensures ∙ c.if-is_whole.true) in
-    rw (asked_named a.in_file (words a.line.now) c.in-Some.word.now c.in-Some.ensures (sym c.starts_with.ensures.value ∙ c.if-starts_with.false) q c.named-request.ensures) (fills_whole q _ _ _ read whole)
+    rw (asked_named a.in_file (words a.line.now) c.in-Some.word.now _ c.in-Some.ensures.0 (sym c.starts_with.ensures.value ∙ c.if-starts_with.false) q c.named-request.ensures) (fills_whole q _ _ _ read whole)
 
 pub returns-in_default-read_numbers : goal.returns-in_default-read_numbers
 returns-in_default-read_numbers c =
     let a = c.args in
     let q = c.named-request.result in
     none_asked _ _ _ _
-    (asked_named a.in_file (words a.line.now) c.in-Some.word.now c.in-Some.ensures (sym c.starts_with.ensures.value ∙ c.if-starts_with.false) q c.named-request.ensures
+    (asked_named a.in_file (words a.line.now) c.in-Some.word.now _ c.in-Some.ensures.0 (sym c.starts_with.ensures.value ∙ c.if-starts_with.false) q c.named-request.ensures
     ∙ (elim c.in_default-read_numbers.branch [
       | in_default-read_numbers-via-in-Some-read_numbers+else-is_whole w ↦
           let read = rw c.form-form.ensures at w.in-Some-read_numbers.ensures in
