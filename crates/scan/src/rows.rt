@@ -76,14 +76,7 @@ impl Row<'_> {
     }
 
     // All of it, by its newest stamp for each nearness to a bank.
-    pub fn near_ask(
-        &self,
-        bank: usize,
-        own: Step,
-        mate: Step,
-        beside: Step,
-        others: Step,
-    ) -> u64
+    pub fn near_ask(&self, bank: usize, own: Step, mate: Step, beside: Step, others: Step) -> u64
         requires { bank < 16 }
         ensures { result ≡ near_ask self.now.last.now self.now.first bank own.size mate.size beside.size others.size }
     {
