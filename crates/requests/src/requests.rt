@@ -41,6 +41,7 @@ fn read_numbers(line: &[u8], form: Form, numbers: &mut [u64; 4096]) -> Option<us
     requires { length line.now ≤ 4096 }
     ensures { IsRead (read_from form 0 (words line.now)) result numbers.new }
 {
+    // Word by word, and not by the library's `split`, which hands out an empty part for each blank.
     let mut rest = line;
     let mut count = 0;
     while let Some((word, behind)) = split_word(rest) {
